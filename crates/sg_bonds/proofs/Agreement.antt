@@ -1,31 +1,18 @@
 -- What two assignments say of the product of two spins, along paths of bonds.
-use Rattle.std.proofs.Common.{◌≡◌, ◌⊎◌, inl, inr, ℕ, ◌<◌, Bool, true, ℤ, pos, neg_ℤ, ◌*ℤ◌, List, [], ◌∷◌, refl, sym, ◌∙◌, ap, ap₂, subst, length}
+use Rattle.std.proofs.Common.{◌≡◌, ◌⊎◌, inl, inr, ℕ, ◌<◌, Bool, true, ℤ, pos, neg_ℤ, ◌*ℤ◌, List, [], ◌∷◌, sym, ◌∙◌, ap₂, length, arith, subst}
 use Rattle.std.proofs.Math.IntN.{*ℤ_comm}
 use Rattle.std.proofs.lemmas.Bool.{cases_lt}
+use Rattle.std.proofs.lemmas.Int.{ints}
 use Rattle.std.proofs.lemmas.List.{get_or_past}
 use Rattle.sg_model.specs.Ising.{Ising, bond_at, bond_count}
 use Rattle.sg_model.specs.WellFormed.{IsInstance}
 use Rattle.sg_model.specs.Spins.{IsUpOrDown, IsAssignment, spin}
 use Rattle.sg_model.specs.Energy.{product}
 use Rattle.sg_model.specs.Connected.{IsWalk, JoinedBy}
-use Rattle.sg_bonds.proofs.ForcedMinimum.{unit_product}
-
--- two products are the same or opposite
-same_or_opposite : (x y : ℤ) → IsUpOrDown x → IsUpOrDown y → (x ≡ y) ⊎ (y ≡ neg_ℤ x)
-same_or_opposite x y (inl a) (inl b) = inl (a ∙ sym b)
-same_or_opposite x y (inl a) (inr b) = inr (b ∙ sym (ap neg_ℤ a))
-same_or_opposite x y (inr a) (inl b) = inr (b ∙ sym (ap neg_ℤ a))
-same_or_opposite x y (inr a) (inr b) = inl (a ∙ sym b)
+use Rattle.sg_bonds.proofs.ForcedMinimum.{same_or_opposite, unit_product}
 
 through : (x y z : ℤ) → IsUpOrDown x → IsUpOrDown y → IsUpOrDown z → x *ℤ z ≡ (x *ℤ y) *ℤ (y *ℤ z)
-through x y z (inl a) (inl b) (inl c) = rw (a, b, c) refl
-through x y z (inl a) (inl b) (inr c) = rw (a, b, c) refl
-through x y z (inl a) (inr b) (inl c) = rw (a, b, c) refl
-through x y z (inl a) (inr b) (inr c) = rw (a, b, c) refl
-through x y z (inr a) (inl b) (inl c) = rw (a, b, c) refl
-through x y z (inr a) (inl b) (inr c) = rw (a, b, c) refl
-through x y z (inr a) (inr b) (inl c) = rw (a, b, c) refl
-through x y z (inr a) (inr b) (inr c) = rw (a, b, c) refl
+through x y z p q r = grind (arith, ints, p, q, r)
 
 -- each spin of an assignment is up or down; past the last one it is read as up
 pub units : (inst : Ising) (g : List ℤ) → IsAssignment inst g → (i : ℕ) → IsUpOrDown (spin g i)
@@ -58,40 +45,29 @@ module _ (inst : Ising) (good : IsInstance inst) (s t : List ℤ) (first : IsAss
       ∙ sym (through (spin t a) (spin t b) (spin t c) (units inst t second a) (units inst t second b) (units inst t second c))
 
   agree_self : (a : ℕ) → Agree a a
-  agree_self a = ones (spin s a) (units inst s first a) ∙ sym (ones (spin t a) (units inst t second a))
-    where
-      ones : (x : ℤ) → IsUpOrDown x → x *ℤ x ≡ pos 1
-      ones x (inl a) = rw a refl
-      ones x (inr a) = rw a refl
+  agree_self a = grind (arith, ints, units inst s first a, units inst t second a)
 
   -- where they have one product at a bond, they agree on its ends
   agree_joined : (set : ℕ → Bool) (a b : ℕ) (j : JoinedBy inst set a b) → product s (bond_at inst j.bond) ≡ product t (bond_at inst j.bond) → Agree a b
-  agree_joined set a b j same = by_ends j.ends
-    where
-      by_ends : (((bond_at inst j.bond).u ≡ a) × ((bond_at inst j.bond).v ≡ b)) ⊎ (((bond_at inst j.bond).u ≡ b) × ((bond_at inst j.bond).v ≡ a)) → Agree a b
-      by_ends (inl e) =
-          subst (λ x. spin s x *ℤ spin s b ≡ spin t x *ℤ spin t b) e.0
-          (subst (λ y. spin s (bond_at inst j.bond).u *ℤ spin s y ≡ spin t (bond_at inst j.bond).u *ℤ spin t y) e.1 same)
-      by_ends (inr e) =
-          agree_back b a
-          (subst (λ x. spin s x *ℤ spin s a ≡ spin t x *ℤ spin t a) e.0
-          (subst (λ y. spin s (bond_at inst j.bond).u *ℤ spin s y ≡ spin t (bond_at inst j.bond).u *ℤ spin t y) e.1 same))
+  agree_joined set a b j same = elim j.ends [
+    | inl e ↦ rw (sym e.0, sym e.1) same
+    | inr e ↦ agree_back b a (rw (sym e.0, sym e.1) same)
+  ]
 
   step : (set : ℕ → Bool) (a b : ℕ) → JoinedBy inst set a b → Agree a b ⊎ Turns inst set s t
-  step set a b j = by_product (same_or_opposite (product s (bond_at inst j.bond)) (product t (bond_at inst j.bond))
-      (unit_product inst good j.bond j.below s first) (unit_product inst good j.bond j.below t second))
-    where
-      by_product : (product s (bond_at inst j.bond) ≡ product t (bond_at inst j.bond)) ⊎
-          (product t (bond_at inst j.bond) ≡ neg_ℤ (product s (bond_at inst j.bond))) → Agree a b ⊎ Turns inst set s t
-      by_product (inl same) = inl (agree_joined set a b j same)
-      by_product (inr turned) = inr (record { bond = j.bond; below = j.below; in_set = j.in_set; turned = turned })
+  step set a b j = elim (same_or_opposite (product s (bond_at inst j.bond)) (product t (bond_at inst j.bond))
+      (unit_product inst good j.bond j.below s first) (unit_product inst good j.bond j.below t second)) [
+        | inl same ↦ inl (agree_joined set a b j same)
+        | inr turned ↦ inr (record { bond = j.bond; below = j.below; in_set = j.in_set; turned = turned })
+      ]
 
   -- they agree on the ends of a path, or the second turns some bond of it
   pub agree_or_turn : (set : ℕ → Bool) (path : List ℕ) (a b : ℕ) → IsWalk inst set a path b → Agree a b ⊎ Turns inst set s t
   agree_or_turn set [] a b w = inl (subst (λ x. spin s a *ℤ spin s x ≡ spin t a *ℤ spin t x) w (agree_self a))
-  agree_or_turn set (c ∷ cs) a b w = join (step set a c w.0) (agree_or_turn set cs c b w.1)
-    where
-      join : Agree a c ⊎ Turns inst set s t → Agree c b ⊎ Turns inst set s t → Agree a b ⊎ Turns inst set s t
-      join (inl p) (inl q) = inl (agree_through a c b p q)
-      join (inl p) (inr q) = inr q
-      join (inr p) q = inr p
+  agree_or_turn set (c ∷ cs) a b w = elim (step set a c w.0) [
+    | inl p ↦ elim (agree_or_turn set cs c b w.1) [
+      | inl q ↦ inl (agree_through a c b p q)
+      | inr turn ↦ inr turn
+    ]
+    | inr turn ↦ inr turn
+  ]

@@ -1,9 +1,7 @@
 -- The cost of a bond, from the least energy with the product that a ground state does not have.
-use Rattle.std.proofs.Common.{◌≡◌, inl, inr, ℕ, ◌+◌, ◌*◌, ◌<◌, ◌≤◌, ◌^◌, ℤ, pos, negsuc, neg_ℤ, ◌+ℤ◌, ◌-ℤ◌, ◌*ℤ◌, ◌≤ℤ◌, List, [], ◌∷◌, ◌++◌, length, get_or, refl, sym, ◌∙◌, ap, ap₂, subst, arith, Some, to_z, of_z, w64}
+use Rattle.std.proofs.Common.{◌≡◌, inl, inr, ℕ, ◌+◌, ◌*◌, ◌<◌, ◌≤◌, ◌^◌, ℤ, pos, negsuc, neg_ℤ, ◌+ℤ◌, ◌-ℤ◌, ◌*ℤ◌, List, [], ◌∷◌, ◌++◌, length, get_or, refl, sym, ◌∙◌, ap, ap₂, subst, arith, Some, to_z, of_z, w64}
 use Rattle.std.specs.Prelude.{FitsSigned, slice_get, unsigned_abs}
 use Rattle.std.proofs.lemmas.Int.{ints, fits_signed_from_abs, to_z-of_z}
-use Rattle.std.proofs.lemmas.Bool.{cases_lt}
-use Rattle.std.proofs.lemmas.List.{get_or_append_left, get_or_push}
 use Rattle.std.proofs.lemmas.Option.{get_or_from_slice_get}
 use Rattle.sg_limits.specs.Limits.{sum_limit, forced_limit}
 use Rattle.sg_model.specs.declared.bond.Bond.{Bond}
@@ -15,12 +13,12 @@ use Rattle.sg_model.specs.Changes.{with_coupling}
 use Rattle.sg_model.proofs.EnergyBounds.{energy_size, least_of_ground_state}
 use Rattle.sg_planar.proofs.OtherCouplings.{weight_coupled}
 use Rattle.sg_bonds.specs.Cost.{IsCost, IsLeastWith}
+use Rattle.sg_bonds.proofs.OneEntry.{push_each}
 use Rattle.sg_bonds.proofs.ForcedMinimum.{coupling_size, forced_energy, forced_minimum, forced_product}
 
 -- a unit leaves a size as it is
 pub signed_size : (p x : ℤ) → IsUpOrDown p → unsigned_abs (p *ℤ x) ≡ unsigned_abs x
-signed_size p x (inl e) = rw e (omega (arith, ints))
-signed_size p x (inr e) = rw e (omega (arith, ints))
+signed_size p x up = grind (arith, ints, up)
 
 -- the sum of an instance at the limit in which one bond is forced
 pub forced_sum : (inst : Ising) (k : ℕ) (p : ℤ) (w : ℕ) → k < bond_count inst → IsUpOrDown p → weight inst ≤ w
@@ -40,42 +38,25 @@ module _ (inst : Ising) (good : IsInstance inst) (k : ℕ) where
   -- and the other least energy tells the cost
   pub cost_from_other : (s : List ℤ) (p e c : ℤ) → IsGroundState inst s → IsUpOrDown p → product s (bond_at inst k) ≡ neg_ℤ p
       → IsLeastWith inst k p e → c ≡ e -ℤ energy inst s → IsCost inst k c
-  cost_from_other s p e c g up own other gain = by_sign up
-    where
-      above : energy inst s ≤ℤ e
-      above = subst (λ x. energy inst s ≤ℤ x) other.reached.3 (g.least other.reached.0 other.reached.1)
-
-      up_from : (x y z : ℤ) → z ≡ x -ℤ y → y ≤ℤ x → z ≡ pos (unsigned_abs (x -ℤ y))
-      up_from x y z a b = omega (arith, ints)
-
-      down_from : (x y z : ℤ) → z ≡ x -ℤ y → y ≤ℤ x → z ≡ pos (unsigned_abs (y -ℤ x))
-      down_from x y z a b = omega (arith, ints)
-
-      by_sign : IsUpOrDown p → IsCost inst k c
-      by_sign (inl a) = record {
-        like = e;
-        unlike = energy inst s;
-        least_like = subst (λ q. IsLeastWith inst k q e) a other;
-        least_unlike = least_with_own s (negsuc 0) g (own ∙ ap neg_ℤ a);
-        apart = down_from e (energy inst s) c gain above;
-      }
-      by_sign (inr a) = record {
-        like = energy inst s;
-        unlike = e;
-        least_like = least_with_own s (pos 1) g (own ∙ ap neg_ℤ a);
-        least_unlike = subst (λ q. IsLeastWith inst k q e) a other;
-        apart = up_from e (energy inst s) c gain above;
-      }
+  cost_from_other s p e c g (inl a) own other gain = record {
+    like = e;
+    unlike = energy inst s;
+    least_like = subst (λ q. IsLeastWith inst k q e) a other;
+    least_unlike = least_with_own s (negsuc 0) g (own ∙ ap neg_ℤ a);
+    apart = omega (arith, ints, gain, other.reached.3, g.least other.reached.0 other.reached.1);
+  }
+  cost_from_other s p e c g (inr a) own other gain = record {
+    like = energy inst s;
+    unlike = e;
+    least_like = least_with_own s (pos 1) g (own ∙ ap neg_ℤ a);
+    least_unlike = subst (λ q. IsLeastWith inst k q e) a other;
+    apart = omega (arith, ints, gain, other.reached.3, g.least other.reached.0 other.reached.1);
+  }
 
 -- one more cost
 pub costs_more : (inst : Ising) (costs : List ℤ) (c : ℤ) (n : ℕ) → length costs ≡ n → ((k : ℕ) → k < n → IsCost inst k (get_or costs k (pos 0)))
     → IsCost inst n c → (k : ℕ) → k < n + 1 → IsCost inst k (get_or (costs ++ c ∷ []) k (pos 0))
-costs_more inst costs c n long before here k l = elim (cases_lt k n) [
-  | inl b ↦ subst (IsCost inst k) (sym (get_or_append_left costs (c ∷ []) (pos 0) k (omega (arith, long)))) (before k b)
-  | inr past ↦
-      let same : k ≡ n = omega arith in
-      subst (IsCost inst k) (sym (get_or_push costs c (pos 0) k (long ∙ sym same))) (subst (λ i. IsCost inst i c) (sym same) here)
-]
+costs_more inst costs c n long before here = push_each (IsCost inst) costs c (pos 0) n long before here
 
 -- a number of 64 bits after its way through its bits
 abbrev kept : ℤ → ℤ
@@ -87,8 +68,7 @@ kept_small x w l m = to_z-of_z w64 x (fits_signed_from_abs w64 x (omega arith))
 
 -- and 1 and -1
 pub kept_unit : (p : ℤ) → IsUpOrDown p → to_z w64 (of_z w64 p) ≡ p
-kept_unit p (inl e) = kept_small p 1 (omega (arith, ap unsigned_abs e)) (omega arith)
-kept_unit p (inr e) = kept_small p 1 (omega (arith, ap unsigned_abs e)) (omega arith)
+kept_unit p up = kept_small p 1 (grind (arith, ints, up)) (omega arith)
 
 -- bond k as it is read from the list of bonds
 pub read_bond : (inst same : Ising) (bonds : List Bond) (k : ℕ) (b : Bond) → slice_get bonds k ≡ Some b → bonds ≡ same.bonds → same ≡ inst → bond_at inst k ≡ b
@@ -146,32 +126,17 @@ module _ (inst : Ising) (good : IsInstance inst) (k : ℕ) (inside : k < bond_co
     own_kept : kept x ≡ x
     own_kept = kept_small x sum_limit own_bound (omega arith)
 
-    sum_size : (a b : ℤ) (m n : ℕ) → unsigned_abs a ≤ m → unsigned_abs b ≤ n → unsigned_abs (a +ℤ b) ≤ m + n
-    sum_size a b m n l r = omega (arith, ints)
-
-    gap_size : (a b : ℤ) (m n : ℕ) → unsigned_abs a ≤ m → unsigned_abs b ≤ n → unsigned_abs (a -ℤ b) ≤ m + n
-    gap_size a b m n l r = omega (arith, ints)
-
-    inner : kept e +ℤ kept f ≡ e +ℤ pos (weight inst + 1)
-    inner = ap₂ (λ a b. a +ℤ b) energy_kept force_kept
-
-    inner_bound : unsigned_abs (e +ℤ pos (weight inst + 1)) ≤ forced_limit + (sum_limit + 1)
-    inner_bound = sum_size e (pos (weight inst + 1)) forced_limit (sum_limit + 1) energy_bound (omega arith)
-
     inner_kept : kept (kept e +ℤ kept f) ≡ e +ℤ pos (weight inst + 1)
-    inner_kept = ap kept inner ∙ kept_small (e +ℤ pos (weight inst + 1)) (forced_limit + (sum_limit + 1)) inner_bound (omega arith)
+    inner_kept =
+        ap kept (ap₂ (λ a b. a +ℤ b) energy_kept force_kept)
+        ∙ kept_small (e +ℤ pos (weight inst + 1)) (forced_limit + (sum_limit + 1)) (omega (arith, ints, energy_bound, small)) (omega arith)
 
     outer : kept (kept e +ℤ kept f) -ℤ kept x ≡ (e +ℤ pos (weight inst + 1)) -ℤ (p *ℤ (bond_at inst k).j)
     outer = ap₂ (λ a b. a -ℤ b) inner_kept (own_kept ∙ own_is)
 
-    outer_bound : unsigned_abs (kept (kept e +ℤ kept f) -ℤ kept x) ≤ (forced_limit + (sum_limit + 1)) + sum_limit
-    outer_bound =
-        gap_size (kept (kept e +ℤ kept f)) (kept x) (forced_limit + (sum_limit + 1)) sum_limit
-        (omega (arith, ap unsigned_abs inner_kept, inner_bound)) (omega (arith, ap unsigned_abs own_kept, own_bound))
-
     -- the difference in the code fits 64 bits
     pub gap_fits : FitsSigned w64 (to_z w64 (of_z w64 (to_z w64 (of_z w64 e) +ℤ to_z w64 (of_z w64 f))) -ℤ to_z w64 (of_z w64 x))
-    gap_fits = fits_signed_from_abs w64 (kept (kept e +ℤ kept f) -ℤ kept x) (omega (arith, outer_bound))
+    gap_fits = fits_signed_from_abs w64 (kept (kept e +ℤ kept f) -ℤ kept x) (omega (arith, ints, inner_kept, own_kept, energy_bound, own_bound, small))
 
     -- it is the least energy with this product
     pub least_found : IsLeastWith inst k p (to_z w64 (of_z w64 (to_z w64 (of_z w64 (to_z w64 (of_z w64 e) +ℤ to_z w64 (of_z w64 f))) -ℤ to_z w64 (of_z w64 x))))
@@ -203,12 +168,9 @@ module _ (inst : Ising) (good : IsInstance inst) (k : ℕ) (small : weight inst 
   both_kept : kept e -ℤ kept l ≡ e -ℤ l
   both_kept = ap₂ (λ a b. a -ℤ b) (kept_small e (weight inst) other_bound (omega arith)) (kept_small l (weight inst) ground_bound (omega arith))
 
-  apart : (a b : ℤ) (m : ℕ) → unsigned_abs a ≤ m → unsigned_abs b ≤ m → unsigned_abs (a -ℤ b) ≤ m + m
-  apart a b m x y = omega (arith, ints)
-
   -- the difference of the two least energies fits 64 bits
   pub cost_fits : FitsSigned w64 (to_z w64 (of_z w64 e) -ℤ to_z w64 (of_z w64 l))
-  cost_fits = fits_signed_from_abs w64 (kept e -ℤ kept l) (omega (arith, ap unsigned_abs both_kept, apart e l (weight inst) other_bound ground_bound))
+  cost_fits = fits_signed_from_abs w64 (kept e -ℤ kept l) (omega (arith, ints, both_kept, other_bound, ground_bound, small))
 
   -- it is the cost of the bond
   pub cost_found : IsCost inst k (to_z w64 (of_z w64 (to_z w64 (of_z w64 e) -ℤ to_z w64 (of_z w64 l))))
@@ -219,7 +181,5 @@ module _ (inst : Ising) (good : IsInstance inst) (k : ℕ) (small : weight inst 
   -- an assignment of that energy lies as far above the ground state as the bond costs
   pub above_found : (t : List ℤ) → e ≡ energy inst t → energy inst t ≡ energy inst s +ℤ to_z w64 (of_z w64 (to_z w64 (of_z w64 e) -ℤ to_z w64 (of_z w64 l)))
   above_found t same =
-      sym same ∙ apart_again e l (kept (kept e -ℤ kept l)) (energy inst s) (to_z-of_z w64 (kept e -ℤ kept l) cost_fits ∙ both_kept) value
-    where
-      apart_again : (a b c d : ℤ) → c ≡ a -ℤ b → b ≡ d → a ≡ d +ℤ c
-      apart_again a b c d x y = omega (arith, ints)
+      let gap = to_z-of_z w64 (kept e -ℤ kept l) cost_fits ∙ both_kept in
+      omega (arith, ints, gap, same, value)

@@ -1,6 +1,6 @@
 -- A least join without an edge, where the edge weighs whatever it may, is with the edge, or as it is, the least among the joins that have
 -- the edge, or that do not.
-use Rattle.std.proofs.Common.{inl, inr, ◌≡◌, ◌≢◌, ℕ, ◌+◌, ◌<◌, ◌≤◌, ℤ, pos, Bool, true, false, cond, ◌&&◌, eqb, List, refl, sym, ◌∙◌, ap, subst, arith}
+use Rattle.std.proofs.Common.{inl, inr, ◌≡◌, ◌≢◌, ℕ, ◌+◌, ◌<◌, ◌≤◌, ℤ, pos, Bool, true, false, cond, ◌&&◌, eqb, List, refl, sym, ◌∙◌, ap, ap₂, arith}
 use Rattle.std.proofs.Common.{set, sum_by}
 use Rattle.std.specs.Prelude.{unsigned_abs}
 use Rattle.std.proofs.lemmas.Bool.{cases_eq, eq-eqb, eqb-true, false≢true}
@@ -11,7 +11,7 @@ use Rattle.sg_sums.specs.Sets.{chosen_below, holds}
 use Rattle.sg_sums.specs.Sums.{sum_below}
 use Rattle.sg_sums.specs.Ends.{is_end}
 use Rattle.sg_sums.proofs.MemberSums.{members_sum}
-use Rattle.sg_sums.proofs.ParityLaws.{and-false, odd_is, parity_below-same, parity_below-xor, parity_below_pick, xor-false}
+use Rattle.sg_sums.proofs.ParityLaws.{odd_is, parity_below-same, parity_below-xor, parity_below_pick, xor-false, xor_comm}
 use Rattle.sg_sums.proofs.RisingLists.{chosen_below_low, chosen_below_rises, holds-chosen_below, members_parity}
 use Rattle.sg_sums.proofs.SumLaws.{sum_below-add, sum_below-same, sum_below_pick}
 use Rattle.sg_graph.specs.declared.web.Edge.{Edge}
@@ -26,30 +26,10 @@ and_turned x y = grind arith
 
 -- what changes where one member is put in or taken out
 changed : (b n s t h : Bool) → (b ≡ true → xor s n ≡ h) → (cond b n s && t) ≡ xor ((h && t) && b) (s && t)
-changed true n s t h p = let e : xor s n ≡ h = p refl in subst (λ h. (n && t) ≡ xor ((h && t) && true) (s && t)) e (both n s t)
-  where
-    both : (n s t : Bool) → (n && t) ≡ xor ((xor s n && t) && true) (s && t)
-    both true true true = refl
-    both true true false = refl
-    both true false true = refl
-    both true false false = refl
-    both false true true = refl
-    both false true false = refl
-    both false false true = refl
-    both false false false = refl
-changed false n s t h p = ap (λ u. xor u (s && t)) (sym (and-false (h && t)))
+changed b n s t h p = grind arith
 
 xor_back : (a t : Bool) → xor a (xor t a) ≡ t
-xor_back true true = refl
-xor_back true false = refl
-xor_back false true = refl
-xor_back false false = refl
-
-xor_turned : (a t : Bool) → xor a t ≡ xor t a
-xor_turned true true = refl
-xor_turned true false = refl
-xor_turned false true = refl
-xor_turned false false = refl
+xor_back a t = grind arith
 
 -- joins in the words of parities
 module _ (h : Graph) (terminals : List ℕ) where
@@ -77,16 +57,7 @@ module _ (h : Graph) (terminals : List ℕ) where
 
 -- the weight at a place, by whether the number there is the one
 part : (b h s : Bool) (v u c : ℕ) → (b ≡ true → (s ≡ h) × (v ≡ c)) → (b ≡ false → v ≡ u) → cond s v 0 ≡ cond b (cond h c 0) 0 + cond (cond b false s) u 0
-part true h s v u c p q = let (e, f) = p refl in one h s v c e f
-  where
-    one : (h s : Bool) (v c : ℕ) → s ≡ h → v ≡ c → cond s v 0 ≡ cond h c 0 + 0
-    one true s v c e f = rw e (omega (arith, f))
-    one false s v c e f = rw e (omega arith)
-part false h s v u c p q = by_side s (q refl)
-  where
-    by_side : (s : Bool) → v ≡ u → cond s v 0 ≡ 0 + cond s u 0
-    by_side true e = omega (arith, e)
-    by_side false e = omega arith
+part b h s v u c p q = grind arith
 
 module _ (g : Graph) (k : ℕ) (inside : k < edge_count g) (w : ℤ) where
   abbrev heavy : Graph
@@ -157,6 +128,19 @@ module _ (g : Graph) (k : ℕ) (inside : k < edge_count g) (w : ℤ) where
     other_weight : (e : ℕ) → eqb k e ≡ false → edge_weight g e ≡ edge_weight (with_weight g k w) e
     other_weight e p = ap weight_at (sym (other_edge e (λ (same : e ≡ k). false≢true (sym p ∙ eq-eqb k e (sym same)))))
 
+    -- the weight of edges of which edge k is one, as is said, by that of the others
+    split_weight : (f : ℕ → Bool) → f k ≡ has → sum_below (λ e. cond (f e) (edge_weight g e) 0) (edge_count g)
+        ≡ cond has (edge_weight g k) 0
+        + sum_below (λ e. cond (cond (eqb k e) false (f e)) (edge_weight (with_weight g k w) e) 0) (edge_count (with_weight g k w))
+    split_weight f here =
+        sum_below-same (λ e. cond (f e) (edge_weight g e) 0)
+        (λ e. cond (eqb k e) (cond has (edge_weight g k) 0) 0 + cond (cond (eqb k e) false (f e)) (edge_weight heavy e) 0) (edge_count g)
+        (λ e _. part (eqb k e) has (f e) (edge_weight g e) (edge_weight heavy e) (edge_weight g k)
+        (λ same. (ap f (sym (eqb-true k e same)) ∙ here, ap (edge_weight g) (sym (eqb-true k e same)))) (other_weight e))
+        ∙ sum_below-add (λ e. cond (eqb k e) (cond has (edge_weight g k) 0) 0) (λ e. cond (cond (eqb k e) false (f e)) (edge_weight heavy e) 0) (edge_count g)
+        ∙ ap₂ (λ x y. x + y) (sum_below_pick (cond has (edge_weight g k) 0) k (edge_count g) inside)
+        (ap (sum_below (λ e. cond (cond (eqb k e) false (f e)) (edge_weight heavy e) 0)) (sym same_count))
+
     -- a join that has the edge as is said, without the edge
     module _ (others : List ℕ) (join : IsJoin g terminals others) (side : holds others k ≡ has) where
       abbrev rest : ℕ → Bool
@@ -168,30 +152,15 @@ module _ (g : Graph) (k : ℕ) (inside : k < edge_count g) (w : ℤ) where
           same_parity rest x
           ∙ parity_changed others false x (ap (λ b. xor b false) side ∙ xor-false has)
           ∙ ap (xor (at_ends x)) (parity_of_join g terminals others join x l)
-          ∙ xor_turned (at_ends x) (holds terminals x)
+          ∙ xor_comm (at_ends x) (holds terminals x)
           ∙ sym (turned_holds x l)))
 
       rest_weight : weight_of g others
           ≡ cond has (edge_weight g k) 0 + weight_of (with_weight g k w)
           (chosen_below (λ e. cond (eqb k e) false (holds others e)) (edge_count (with_weight g k w)))
       rest_weight =
-          let split : sum_below (λ e. cond (holds others e) (edge_weight g e) 0) (edge_count g)
-          ≡ sum_below (λ e. cond (eqb k e) (cond has (edge_weight g k) 0) 0 + cond (rest e) (edge_weight heavy e) 0) (edge_count g) =
-          sum_below-same (λ e. cond (holds others e) (edge_weight g e) 0)
-          (λ e. cond (eqb k e) (cond has (edge_weight g k) 0) 0 + cond (rest e) (edge_weight heavy e) 0) (edge_count g)
-          (λ e _. part (eqb k e) has (holds others e) (edge_weight g e) (edge_weight heavy e) (edge_weight g k)
-          (λ same. (ap (holds others) (sym (eqb-true k e same)) ∙ side, ap (edge_weight g) (sym (eqb-true k e same)))) (other_weight e)) in
-          let added : sum_below (λ e. cond (eqb k e) (cond has (edge_weight g k) 0) 0 + cond (rest e) (edge_weight heavy e) 0) (edge_count g)
-          ≡ sum_below (λ e. cond (eqb k e) (cond has (edge_weight g k) 0) 0) (edge_count g)
-          + sum_below (λ e. cond (rest e) (edge_weight heavy e) 0) (edge_count g) =
-          sum_below-add (λ e. cond (eqb k e) (cond has (edge_weight g k) 0) 0) (λ e. cond (rest e) (edge_weight heavy e) 0) (edge_count g) in
-          let own : sum_below (λ e. cond (eqb k e) (cond has (edge_weight g k) 0) 0) (edge_count g) ≡ cond has (edge_weight g k) 0 =
-          sum_below_pick (cond has (edge_weight g k) 0) k (edge_count g) inside in
-          let chosen : weight_of heavy (chosen_below rest (edge_count heavy)) ≡ sum_below (λ e. cond (rest e) (edge_weight heavy e) 0) (edge_count heavy) =
-          chosen_below-weight rest (edge_weight heavy) (edge_count heavy) in
-          let counted : sum_below (λ e. cond (rest e) (edge_weight heavy e) 0) (edge_count heavy)
-          ≡ sum_below (λ e. cond (rest e) (edge_weight heavy e) 0) (edge_count g) = ap (sum_below (λ e. cond (rest e) (edge_weight heavy e) 0)) same_count in
-          omega (arith, weight_below others join, split, added, own, chosen, counted)
+          let chosen = chosen_below-weight rest (edge_weight heavy) (edge_count heavy) in
+          omega (arith, weight_below others join, split_weight (holds others) side, chosen)
 
     -- a join of the turned terminals that has not the edge, with the edge as is said
     module _ (edges : List ℕ) (least : IsLeastJoin (with_weight g k w) (turned_at g terminals k has) edges) (bare : holds edges k ≡ false) where
@@ -207,36 +176,16 @@ module _ (g : Graph) (k : ℕ) (inside : k < edge_count g) (w : ℤ) where
           ∙ ap (λ b. cond b has (holds edges k)) (eq-eqb k k refl)
 
       whole_rest : (e : ℕ) → cond (eqb k e) false (cond (eqb k e) has (holds edges e)) ≡ holds edges e
-      whole_rest e = by_case (eqb k e) (holds edges e) (λ same. ap (holds edges) (sym (eqb-true k e same)) ∙ bare)
-        where
-          by_case : (b s : Bool) → (b ≡ true → s ≡ false) → cond b false (cond b has s) ≡ s
-          by_case true s p = sym (p refl)
-          by_case false s p = refl
+      whole_rest e = grind (arith, eqb-true k e, bare)
 
       whole_weight : weight_of g (with_edge g edges k has) ≡ cond has (edge_weight g k) 0 + weight_of (with_weight g k w) edges
       whole_weight =
-          let chosen : weight_of g (with_edge g edges k has)
-          ≡ sum_below (λ e. cond (cond (eqb k e) has (holds edges e)) (edge_weight g e) 0) (edge_count g) =
-          chosen_below-weight (λ e. cond (eqb k e) has (holds edges e)) (edge_weight g) (edge_count g) in
-          let split : sum_below (λ e. cond (cond (eqb k e) has (holds edges e)) (edge_weight g e) 0) (edge_count g)
-          ≡ sum_below (λ e. cond (eqb k e) (cond has (edge_weight g k) 0) 0 + cond (holds edges e) (edge_weight heavy e) 0) (edge_count g) =
-          sum_below-same (λ e. cond (cond (eqb k e) has (holds edges e)) (edge_weight g e) 0)
-          (λ e. cond (eqb k e) (cond has (edge_weight g k) 0) 0 + cond (holds edges e) (edge_weight heavy e) 0) (edge_count g)
-          (λ e _. part (eqb k e) has (cond (eqb k e) has (holds edges e)) (edge_weight g e) (edge_weight heavy e) (edge_weight g k)
-          (λ same. (ap (λ b. cond b has (holds edges e)) same, ap (edge_weight g) (sym (eqb-true k e same)))) (other_weight e)
-          ∙ ap (λ s. cond (eqb k e) (cond has (edge_weight g k) 0) 0 + cond s (edge_weight heavy e) 0) (whole_rest e)) in
-          let added : sum_below (λ e. cond (eqb k e) (cond has (edge_weight g k) 0) 0 + cond (holds edges e) (edge_weight heavy e) 0) (edge_count g)
-          ≡ sum_below (λ e. cond (eqb k e) (cond has (edge_weight g k) 0) 0) (edge_count g)
-          + sum_below (λ e. cond (holds edges e) (edge_weight heavy e) 0) (edge_count g) =
-          sum_below-add (λ e. cond (eqb k e) (cond has (edge_weight g k) 0) 0) (λ e. cond (holds edges e) (edge_weight heavy e) 0) (edge_count g) in
-          let own : sum_below (λ e. cond (eqb k e) (cond has (edge_weight g k) 0) 0) (edge_count g) ≡ cond has (edge_weight g k) 0 =
-          sum_below_pick (cond has (edge_weight g k) 0) k (edge_count g) inside in
-          let members : sum_below (λ e. cond (holds edges e) (edge_weight heavy e) 0) (edge_count heavy) ≡ weight_of heavy edges =
-          members_sum (edge_weight heavy) edges (edge_count heavy) least.join.below least.join.rising in
-          let counted : sum_below (λ e. cond (holds edges e) (edge_weight heavy e) 0) (edge_count heavy)
-          ≡ sum_below (λ e. cond (holds edges e) (edge_weight heavy e) 0) (edge_count g)
-          = ap (sum_below (λ e. cond (holds edges e) (edge_weight heavy e) 0)) same_count in
-          omega (arith, chosen, split, added, own, members, counted)
+          let chosen = chosen_below-weight (λ e. cond (eqb k e) has (holds edges e)) (edge_weight g) (edge_count g) in
+          let split = split_weight (λ e. cond (eqb k e) has (holds edges e)) (ap (λ b. cond b has (holds edges k)) (eq-eqb k k refl)) in
+          let others = sum_below-same (λ e. cond (cond (eqb k e) false (cond (eqb k e) has (holds edges e))) (edge_weight heavy e) 0)
+          (λ e. cond (holds edges e) (edge_weight heavy e) 0) (edge_count heavy) (λ e _. ap (λ s. cond s (edge_weight heavy e) 0) (whole_rest e))
+          ∙ members_sum (edge_weight heavy) edges (edge_count heavy) least.join.below least.join.rising in
+          omega (arith, chosen, split, others)
 
       -- with the edge put in, or left out, the join is least among those like it
       pub least_with_edge : IsLeastJoinWith g terminals k has (with_edge g edges k has)
@@ -244,7 +193,6 @@ module _ (g : Graph) (k : ℕ) (inside : k < edge_count g) (w : ℤ) where
         join = whole_join;
         side = whole_side;
         least = λ others join side.
-            let light : weight_of heavy edges ≤ weight_of heavy (chosen_below (rest others join side) (edge_count heavy)) =
-            least.least (chosen_below (rest others join side) (edge_count heavy)) (rest_join others join side) in
+            let light = least.least (chosen_below (rest others join side) (edge_count heavy)) (rest_join others join side) in
             omega (arith, light, whole_weight, rest_weight others join side);
       }

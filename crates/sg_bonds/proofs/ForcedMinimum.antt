@@ -1,6 +1,6 @@
 -- A coupling larger than the sum of all couplings forces its bond: no ground state breaks it, and so the least energy with
 -- that product at the bond is known from the new least energy.
-use Rattle.std.proofs.Common.{◌≡◌, ◌≢◌, ◌⊎◌, inl, inr, ℕ, ◌<◌, ◌≤◌, ℤ, pos, neg_ℤ, ◌+ℤ◌, ◌-ℤ◌, ◌*ℤ◌, ◌≤ℤ◌, List, length, replicate, set, refl, sym, ◌∙◌, ap, ap₂, subst, arith, All}
+use Rattle.std.proofs.Common.{◌≡◌, ◌⊎◌, inl, inr, ℕ, ◌<◌, ◌≤◌, ℤ, pos, neg_ℤ, ◌+ℤ◌, ◌-ℤ◌, ◌*ℤ◌, ◌≤ℤ◌, List, length, replicate, set, refl, sym, ◌∙◌, ap, ap₂, subst, arith, All}
 use Rattle.std.specs.Prelude.{unsigned_abs}
 use Rattle.std.proofs.Math.IntN.{*ℤ_comm}
 use Rattle.std.proofs.lemmas.Int.{ints}
@@ -19,6 +19,10 @@ use Rattle.sg_model.proofs.CoupledEnergy.{energy_coupled}
 use Rattle.sg_model.proofs.EnergyBounds.{energy_size}
 use Rattle.sg_planar.proofs.OtherCouplings.{weight_coupled}
 use Rattle.sg_bonds.specs.Cost.{IsLeastWith}
+
+-- two products are the same or opposite
+pub same_or_opposite : (x y : ℤ) → IsUpOrDown x → IsUpOrDown y → (x ≡ y) ⊎ (y ≡ neg_ℤ x)
+same_or_opposite x y p q = grind (arith, ints, p, q)
 
 abbrev no_bond : Bond
 no_bond = record { u = 0; v = 0; j = pos 0 }
@@ -52,11 +56,8 @@ module _ (inst : Ising) (good : IsInstance inst) (k : ℕ) (inside : k < bond_co
 
   -- an assignment with any product at the bond
   some_with : (p : ℤ) → IsUpOrDown p → (s : List ℤ) × IsAssignment inst s × (product s (bond_at inst k) ≡ p)
-  some_with p up = (set ups (bond_at inst k).u p, record { count = long; values = units }, value)
+  some_with p up = (set (replicate inst.n (pos 1)) (bond_at inst k).u p, record { count = long; values = units }, value)
     where
-      ups : List ℤ
-      ups = replicate inst.n (pos 1)
-
       long : length (set (replicate inst.n (pos 1)) (bond_at inst k).u p) ≡ inst.n
       long = length-set (replicate inst.n (pos 1)) (bond_at inst k).u p ∙ length-replicate inst.n (pos 1)
 
@@ -72,65 +73,32 @@ module _ (inst : Ising) (good : IsInstance inst) (k : ℕ) (inside : k < bond_co
           (λ (e : (bond_at inst k).v ≡ (bond_at inst k).u). joined_at.ends_differ (sym e))
           ∙ get_or-replicate inst.n (bond_at inst k).v (pos 1) (pos 1) joined_at.second_end
 
-      once : (x : ℤ) → x *ℤ pos 1 ≡ x
-      once x = omega (arith, ints)
-
       value : product (set (replicate inst.n (pos 1)) (bond_at inst k).u p) (bond_at inst k) ≡ p
-      value = ap₂ (λ x y. x *ℤ y) first second ∙ once p
+      value = let w = ap₂ (λ x y. x *ℤ y) first second in omega (arith, ints, w)
 
   -- the energy, by that of the other bonds
   old_energy : (s : List ℤ) → energy inst s ≡ rest s -ℤ ((bond_at inst k).j *ℤ product s (bond_at inst k))
-  old_energy s = turned (rest s) (energy inst s) ((bond_at inst k).j *ℤ product s (bond_at inst k)) (product s (bond_at inst k))
-      (energy_coupled inst k (pos 0) s inside)
-    where
-      turned : (r e x q : ℤ) → r ≡ (e +ℤ x) -ℤ (pos 0 *ℤ q) → e ≡ r -ℤ x
-      turned r e x q h = omega (arith, ints)
+  old_energy s = omega (arith, ints, energy_coupled inst k (pos 0) s inside)
 
   module _ (p : ℤ) (up : IsUpOrDown p) (m : ℕ) (large : weight inst < m) where
     new_energy : (s : List ℤ) → energy (with_coupling inst k (p *ℤ pos m)) s ≡ rest s -ℤ ((p *ℤ pos m) *ℤ product s (bond_at inst k))
-    new_energy s = turned (rest s) (energy inst s) ((bond_at inst k).j *ℤ product s (bond_at inst k)) ((p *ℤ pos m) *ℤ product s (bond_at inst k))
-        (energy (with_coupling inst k (p *ℤ pos m)) s) (old_energy s) (energy_coupled inst k (p *ℤ pos m) s inside)
-      where
-        turned : (r e x y n : ℤ) → e ≡ r -ℤ x → n ≡ (e +ℤ x) -ℤ y → n ≡ r -ℤ y
-        turned r e x y n g h = omega (arith, ints)
-
-    gained : (x q : ℤ) → IsUpOrDown x → q ≡ x → (x *ℤ pos m) *ℤ q ≡ pos m
-    gained x q (inl a) e = rw (e, a) (omega (arith, ints))
-    gained x q (inr a) e = rw (e, a) (omega (arith, ints))
-
-    lost : (x q : ℤ) → IsUpOrDown x → IsUpOrDown q → q ≢ x → (x *ℤ pos m) *ℤ q ≡ neg_ℤ (pos m)
-    lost x q (inl a) (inl b) ne = absurd (ne (b ∙ sym a))
-    lost x q (inl a) (inr b) ne = rw (a, b) (omega (arith, ints))
-    lost x q (inr a) (inl b) ne = rw (a, b) (omega (arith, ints))
-    lost x q (inr a) (inr b) ne = absurd (ne (b ∙ sym a))
-
-    equal_or_not : (x y : ℤ) → IsUpOrDown x → IsUpOrDown y → (x ≡ y) ⊎ (x ≢ y)
-    equal_or_not x y (inl a) (inl b) = inl (a ∙ sym b)
-    equal_or_not x y (inl a) (inr b) = inr (λ (e : x ≡ y). let w = sym a ∙ e ∙ b in cc)
-    equal_or_not x y (inr a) (inl b) = inr (λ (e : x ≡ y). let w = sym a ∙ e ∙ b in cc)
-    equal_or_not x y (inr a) (inr b) = inl (a ∙ sym b)
+    new_energy s = omega (arith, ints, old_energy s, energy_coupled inst k (p *ℤ pos m) s inside)
 
     with_product : (s : List ℤ) → product s (bond_at inst k) ≡ p → energy (with_coupling inst k (p *ℤ pos m)) s ≡ rest s -ℤ pos m
-    with_product s e = new_energy s ∙ ap (λ x. rest s -ℤ x) (gained p (product s (bond_at inst k)) up e)
+    with_product s e = grind (arith, ints, new_energy s, up, e)
 
-    without_product : (s : List ℤ) → IsAssignment inst s → product s (bond_at inst k) ≢ p
-        → energy (with_coupling inst k (p *ℤ pos m)) s ≡ rest s -ℤ neg_ℤ (pos m)
-    without_product s h ne = new_energy s ∙ ap (λ x. rest s -ℤ x) (lost p (product s (bond_at inst k)) up (unit_product s h) ne)
+    without_product : (s : List ℤ) → product s (bond_at inst k) ≡ neg_ℤ p → energy (with_coupling inst k (p *ℤ pos m)) s ≡ rest s -ℤ neg_ℤ (pos m)
+    without_product s e = grind (arith, ints, new_energy s, up, e)
 
     -- where no assignment has less energy, the product is p
     pub least_has_product : (s : List ℤ) → IsAssignment inst s → ((t : List ℤ) → IsAssignment inst t
         → energy (with_coupling inst k (p *ℤ pos m)) s ≤ℤ energy (with_coupling inst k (p *ℤ pos m)) t) → product s (bond_at inst k) ≡ p
-    least_has_product s h least = by_case (equal_or_not (product s (bond_at inst k)) p (unit_product s h) up)
-      where
-        less : (a b r q : ℤ) (w : ℕ) → a ≡ r -ℤ neg_ℤ (pos m) → b ≡ q -ℤ pos m → unsigned_abs r ≤ w → unsigned_abs q ≤ w → w < m → a ≤ℤ b → ⊥
-        less a b r q w e f g h l o = omega (arith, ints)
-
-        by_case : (product s (bond_at inst k) ≡ p) ⊎ (product s (bond_at inst k) ≢ p) → product s (bond_at inst k) ≡ p
-        by_case (inl e) = e
-        by_case (inr ne) =
-            let other : (t : List ℤ) × IsAssignment inst t × (product t (bond_at inst k) ≡ p) = some_with p up in
-            absurd (less (energy (with_coupling inst k (p *ℤ pos m)) s) (energy (with_coupling inst k (p *ℤ pos m)) other.0) (rest s) (rest other.0)
-            (weight inst) (without_product s h ne) (with_product other.0 other.2) (rest_size s h) (rest_size other.0 other.1) large (least other.0 other.1))
+    least_has_product s h least = elim (same_or_opposite p (product s (bond_at inst k)) up (unit_product s h)) [
+      | inl same ↦ sym same
+      | inr turned ↦
+          let (t, other, has) = some_with p up in
+          absurd (omega (arith, ints, without_product s turned, with_product t has, rest_size s h, rest_size t other, large, least t other))
+    ]
 
     -- with the forced coupling each ground state has this product
     pub forced_product : (s : List ℤ) → IsGroundState (with_coupling inst k (p *ℤ pos m)) s → product s (bond_at inst k) ≡ p
@@ -141,41 +109,19 @@ module _ (inst : Ising) (good : IsInstance inst) (k : ℕ) (inside : k < bond_co
     pub forced_energy : (t : List ℤ) → product t (bond_at inst k) ≡ p
         → energy inst t ≡ (energy (with_coupling inst k (p *ℤ pos m)) t +ℤ pos m) -ℤ (p *ℤ (bond_at inst k).j)
     forced_energy t same =
-        value (energy (with_coupling inst k (p *ℤ pos m)) t) (energy inst t) (rest t) (p *ℤ (bond_at inst k).j) (with_product t same)
-        (old_energy t ∙ ap (λ q. rest t -ℤ ((bond_at inst k).j *ℤ q)) same ∙ ap (λ x. rest t -ℤ x) (*ℤ_comm (bond_at inst k).j p))
-      where
-        value : (n o r x : ℤ) → n ≡ r -ℤ pos m → o ≡ r -ℤ x → o ≡ (n +ℤ pos m) -ℤ x
-        value n o r x a b = omega (arith, ints)
+        let old = old_energy t ∙ ap (λ q. rest t -ℤ ((bond_at inst k).j *ℤ q)) same ∙ ap (λ x. rest t -ℤ x) (*ℤ_comm (bond_at inst k).j p) in
+        omega (arith, ints, old, with_product t same)
 
     -- and its energy gives the least one with this product
     pub forced_minimum : (e : ℤ) → IsLeastEnergy (with_coupling inst k (p *ℤ pos m)) e → IsLeastWith inst k p ((e +ℤ pos m) -ℤ (p *ℤ (bond_at inst k).j))
     forced_minimum e h = record {
-      reached = (
-        s,
-        here,
-        has,
-        value (energy (with_coupling inst k (p *ℤ pos m)) s) (energy inst s) (rest s) (p *ℤ (bond_at inst k).j)
-            (with_product s has) (old_by s has) h.reached.2,
-      );
-      least = λ t u same. below (energy (with_coupling inst k (p *ℤ pos m)) t) (energy inst t) (rest t) (p *ℤ (bond_at inst k).j)
-          (with_product t same) (old_by t same) (h.least t (record { count = u.count; values = u.values }));
+      reached = (h.reached.0, here, has, omega (arith, ints, forced_energy h.reached.0 has, h.reached.2));
+      least = λ t u same. omega (arith, ints, forced_energy t same, h.least t (record { count = u.count; values = u.values }));
     }
       where
-        s : List ℤ
-        s = h.reached.0
-
         here : IsAssignment inst h.reached.0
         here = record { count = h.reached.1.count; values = h.reached.1.values }
 
         has : product h.reached.0 (bond_at inst k) ≡ p
         has = least_has_product h.reached.0 here (λ t u. subst (λ x. x ≤ℤ energy (with_coupling inst k (p *ℤ pos m)) t) (sym h.reached.2)
             (h.least t (record { count = u.count; values = u.values })))
-
-        old_by : (t : List ℤ) → product t (bond_at inst k) ≡ p → energy inst t ≡ rest t -ℤ (p *ℤ (bond_at inst k).j)
-        old_by t same = old_energy t ∙ ap (λ q. rest t -ℤ ((bond_at inst k).j *ℤ q)) same ∙ ap (λ x. rest t -ℤ x) (*ℤ_comm (bond_at inst k).j p)
-
-        value : (n o r x : ℤ) → n ≡ r -ℤ pos m → o ≡ r -ℤ x → n ≡ e → o ≡ (e +ℤ pos m) -ℤ x
-        value n o r x a b c = omega (arith, ints)
-
-        below : (n o r x : ℤ) → n ≡ r -ℤ pos m → o ≡ r -ℤ x → e ≤ℤ n → ((e +ℤ pos m) -ℤ x) ≤ℤ o
-        below n o r x a b c = omega (arith, ints)

@@ -1,8 +1,6 @@
 -- Spins that break a least join among those that have a bond, or do not, are least among those with their product at the bond.
-use Rattle.std.proofs.Common.{inl, inr, ◌≡◌, ℕ, ◌<◌, ◌≤◌, ℤ, pos, negsuc, Bool, true, false, cond, List, Option, None, Some, Result, Ok, Err, refl, sym, ◌∙◌, ap, arith}
+use Rattle.std.proofs.Common.{◌≡◌, ℕ, ◌<◌, ◌≤◌, ℤ, Bool, List, Option, None, Some, Result, Ok, Err, refl, sym, ◌∙◌, ap, arith}
 use Rattle.std.specs.Prelude.{IfOk, IfSome}
-use Rattle.std.specs.Ordering.{int_eq}
-use Rattle.std.proofs.lemmas.Bool.{false≢true, true≢false}
 use Rattle.std.proofs.lemmas.Int.{ints}
 use Rattle.sg_limits.specs.Limits.{forced_limit}
 use Rattle.sg_sums.specs.Sets.{holds}
@@ -11,8 +9,7 @@ use Rattle.sg_model.specs.declared.bond.Bond.{Bond}
 use Rattle.sg_model.specs.Ising.{bond_at, bond_count}
 use Rattle.sg_model.specs.Spins.{IsAssignment, IsUpOrDown}
 use Rattle.sg_model.specs.Energy.{energy, product}
-use Rattle.sg_model.specs.Broken.{is_negative}
-use Rattle.sg_graph.specs.Web.{Graph, edge_count, total_weight, weight_of}
+use Rattle.sg_graph.specs.Web.{Graph, edge_count, total_weight}
 use Rattle.sg_graph.specs.Join.{AreTerminals}
 use Rattle.sg_planar.specs.Fit.{Embedding, IsPlanar}
 use Rattle.sg_planar.specs.BrokenLists.{BreaksExactly}
@@ -23,16 +20,9 @@ use Rattle.sg_bonds.specs.Cost.{IsLeastWith}
 use Rattle.sg_bonds.specs.JoinsWith.{IsDualOf, IsLeastJoinWith, breaks_with}
 use Rattle.sg_bonds.proofs.ForcedMinimum.{unit_product}
 
-unlike_break : (n : Bool) → cond n (int_eq (pos 1) (pos 1)) (int_eq (pos 1) (negsuc 0)) ≡ cond n (int_eq (negsuc 0) (pos 1)) (int_eq (negsuc 0) (negsuc 0)) → ⊥
-unlike_break true h = true≢false h
-unlike_break false h = false≢true h
-
 -- the products that break a bond are all alike, and so are those that do not
 same_by_break : (b : Bond) (x y : ℤ) → IsUpOrDown x → IsUpOrDown y → breaks_with b x ≡ breaks_with b y → x ≡ y
-same_by_break b x y (inl p) (inl q) e = p ∙ sym q
-same_by_break b x y (inr p) (inr q) e = p ∙ sym q
-same_by_break b x y (inl p) (inr q) e = absurd (unlike_break (is_negative b) (ap (breaks_with b) (sym p) ∙ e ∙ ap (breaks_with b) q))
-same_by_break b x y (inr p) (inl q) e = absurd (unlike_break (is_negative b) (ap (breaks_with b) (sym q) ∙ sym e ∙ ap (breaks_with b) p))
+same_by_break b x y p q e = grind (arith, ints, p, q, e)
 
 module _ (p : Embedding) (planar : IsPlanar p) (k : ℕ) (inside : k < bond_count p.instance) (has : Bool) (edges : List ℕ)
     (joined : IsLeastJoinWith (dual_web p.instance p.faces) (frustrated_faces p.instance p.faces) k has edges) where
@@ -50,9 +40,7 @@ module _ (p : Embedding) (planar : IsPlanar p) (k : ℕ) (inside : k < bond_coun
       least = λ t other same.
           let there : holds (broken_bonds p.instance p.faces planar.instance planar.faces t other) k ≡ has =
           sym (BreaksExactly-broken p.instance p.faces planar.instance planar.faces t other k inside) ∙ ap (breaks_with (bond_at p.instance k)) same ∙ side in
-          let light : weight_of (dual_web p.instance p.faces) edges
-          ≤ weight_of (dual_web p.instance p.faces) (broken_bonds p.instance p.faces planar.instance planar.faces t other) =
-          joined.least (broken_bonds p.instance p.faces planar.instance planar.faces t other)
+          let light = joined.least (broken_bonds p.instance p.faces planar.instance planar.faces t other)
           (IsJoin-broken p.instance p.faces planar.instance planar.faces t other) there in
           let own = energy_of_join p.instance p.faces planar.instance planar.faces s edges assigned breaks joined.join in
           let others = energy_of_join p.instance p.faces planar.instance planar.faces t

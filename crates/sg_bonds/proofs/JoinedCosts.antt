@@ -1,12 +1,11 @@
 -- The costs of the parts, one behind another, make those of the whole.
-use Rattle.std.proofs.Common.{inl, inr, ◌≡◌, ◌≢◌, ◌⊎◌, ℕ, suc, ◌+◌, ◌<◌, ◌≤◌, ℤ, pos, Bool, true, false, cond, List, [], ◌∷◌, sym, ◌∙◌, ap}
+use Rattle.std.proofs.Common.{inl, inr, ◌≡◌, ◌≢◌, ℕ, suc, ◌+◌, ◌<◌, ◌≤◌, ℤ, pos, Bool, true, false, cond, List, [], ◌∷◌, sym, ◌∙◌, ap}
 use Rattle.std.proofs.Common.{subst, arith, sum_by, length, get_or}
 use Rattle.std.specs.Prelude.{unsigned_abs}
 use Rattle.std.proofs.lemmas.Bool.{cases_Bool, cases_eq, false≢true}
 use Rattle.std.proofs.lemmas.List.{get_or_default}
 use Rattle.std.proofs.lemmas.List.Sums.{sum_by-cons}
 use Rattle.sg_limits.specs.Limits.{sum_limit}
-use Rattle.sg_sums.specs.Sums.{sum_below}
 use Rattle.sg_sums.specs.Sets.{holds}
 use Rattle.sg_sums.proofs.ListLaws.{cases_in}
 use Rattle.sg_sums.proofs.MemberSums.{members_sum}
@@ -34,15 +33,13 @@ pub record AreJoined (inst : Ising) (parts : List Part) (stop : ℕ) (costs : Li
 stands_somewhere : (b : Part → Bool) (parts : List Part) → sum_by (λ p. cond (b p) 1 0) parts ≡ 1
     → (i : ℕ) × (d : Part) × (i < length parts) × (b (get_or parts i d) ≡ true)
 stands_somewhere b [] once = absurd (omega (arith, once))
-stands_somewhere b (p ∷ parts) once = by_first (λ later. stands_somewhere b parts later) (cases_Bool (b p))
-  where
-    by_first : (sum_by (λ p. cond (b p) 1 0) parts ≡ 1 → (i : ℕ) × (d : Part) × (i < length parts) × (b (get_or parts i d) ≡ true))
-        → (b p ≡ true) ⊎ (b p ≡ false) → (i : ℕ) × (d : Part) × (i < length (p ∷ parts)) × (b (get_or (p ∷ parts) i d) ≡ true)
-    by_first rest (inl here) = (0, p, omega arith, here)
-    by_first rest (inr not_here) =
-        let none : cond {A = ℕ} (b p) 1 0 ≡ 0 = ap (λ c. cond {A = ℕ} c 1 0) not_here in
-        let later : sum_by (λ p. cond (b p) 1 0) parts ≡ 1 = omega (arith, once, none, sum_by-cons (λ p. cond (b p) 1 0) p parts) in
-        let (i, d, l, yes_there) = rest later in (suc i, d, omega (arith, l), yes_there)
+stands_somewhere b (p ∷ parts) once = elim (cases_Bool (b p)) [
+  | inl here ↦ (0, p, omega arith, here)
+  | inr not_here ↦
+      let none : cond {A = ℕ} (b p) 1 0 ≡ 0 = ap (λ c. cond {A = ℕ} c 1 0) not_here in
+      let (i, d, l, yes_there) = stands_somewhere b parts (omega (arith, once, none, sum_by-cons (λ p. cond (b p) 1 0) p parts)) in
+      (suc i, d, omega (arith, l), yes_there)
+]
 
 module _ (inst : Ising) (good : IsInstance inst) (parts : List Part) (are : AreParts inst parts) where
   module _ (i : ℕ) (p : Part) (l : i < length parts) (same : p ≡ get_or parts i p) where
@@ -57,17 +54,10 @@ module _ (inst : Ising) (good : IsInstance inst) (parts : List Part) (are : AreP
     pub part_light : weight inst ≤ sum_limit → weight p.planar.instance ≤ sum_limit
     part_light small =
         let here : sum_by (size_at inst) p.bonds ≡ weight p.planar.instance = weights_over inst p.spins p.bonds p.planar.instance share in
-        let inside : sum_below (λ k. cond (holds p.bonds k) (size_at inst k) 0) (bond_count inst) ≡ sum_by (size_at inst) p.bonds =
-        members_sum (size_at inst) p.bonds (bond_count inst) share.bonds_below share.bonds_rise in
-        let all : weight inst ≡ sum_below (size_at inst) (bond_count inst) =
-        sum_by_is_sum_below (λ (b : Bond). unsigned_abs b.j) inst.bonds (record { u = 0; v = 0; j = pos 0 }) in
-        let le : sum_below (λ k. cond (holds p.bonds k) (size_at inst k) 0) (bond_count inst) ≤ sum_below (size_at inst) (bond_count inst) =
-        sum_below-le (λ k. cond (holds p.bonds k) (size_at inst k) 0) (size_at inst) (bond_count inst) (λ k m. some (holds p.bonds k) (size_at inst k)) in
+        let inside = members_sum (size_at inst) p.bonds (bond_count inst) share.bonds_below share.bonds_rise in
+        let all = sum_by_is_sum_below (λ (b : Bond). unsigned_abs b.j) inst.bonds (record { u = 0; v = 0; j = pos 0 }) in
+        let le = sum_below-le (λ k. cond (holds p.bonds k) (size_at inst k) 0) (size_at inst) (bond_count inst) (λ k m. grind arith) in
         omega (arith, here, inside, all, le, small)
-      where
-        some : (b : Bool) (c : ℕ) → cond b c 0 ≤ c
-        some true c = omega arith
-        some false c = omega arith
 
     -- one part more
     pub joined_more : (old now found : List ℤ) → AreJoined inst parts i old → AreCosts p.planar.instance found → WritesAt p.bonds found old now →
@@ -79,19 +69,17 @@ module _ (inst : Ising) (good : IsInstance inst) (parts : List Part) (are : AreP
 
         -- the bonds of this part
         here : (k : ℕ) → holds p.bonds k ≡ true → IsCost inst k (get_or now k (pos 0))
-        here k held = by_place (cases_in p.bonds k)
-          where
-            by_place : ((j : ℕ) × (j < length p.bonds) × (get_or p.bonds j 0 ≡ k) × (holds p.bonds k ≡ true)) ⊎
-                (((j : ℕ) → j < length p.bonds → get_or p.bonds j 0 ≢ k) × (holds p.bonds k ≡ false)) → IsCost inst k (get_or now k (pos 0))
-            by_place (inr (out, none)) = absurd (false≢true (sym none ∙ held))
-            by_place (inl (j, m, at, _)) =
-                let low : k < length now = omega (arith, share.bonds_below j 0 m, at, long) in
-                let counted : j < length found = omega (arith, m, costs.count, share.bond_counts) in
-                let value : get_or now k (pos 0) ≡ get_or found j (pos 0) =
-                get_or_default now k (pos 0) (pos 1) low ∙ ap (spin now) (sym at) ∙ writes.values j m ∙ get_or_default found j (pos 1) (pos 0) counted in
-                subst (IsCost inst k) (sym value)
-                (subst (λ k. IsCost inst k (get_or found j (pos 0))) at
-                (part_costs inst good found_part.0 p found_part.1 j m (get_or found j (pos 0)) (costs.each j (omega (arith, m, share.bond_counts)))))
+        here k held = elim (cases_in p.bonds k) [
+          | inr (out, none) ↦ absurd (false≢true (sym none ∙ held))
+          | inl (j, m, at, _) ↦
+              let low : k < length now = omega (arith, share.bonds_below j 0 m, at, long) in
+              let counted : j < length found = omega (arith, m, costs.count, share.bond_counts) in
+              let value : get_or now k (pos 0) ≡ get_or found j (pos 0) =
+              get_or_default now k (pos 0) (pos 1) low ∙ ap (spin now) (sym at) ∙ writes.values j m ∙ get_or_default found j (pos 1) (pos 0) counted in
+              subst (IsCost inst k) (sym value)
+              (subst (λ k. IsCost inst k (get_or found j (pos 0))) at
+              (part_costs inst good found_part.0 p found_part.1 j m (get_or found j (pos 0)) (costs.each j (omega (arith, m, share.bond_counts)))))
+        ]
 
         -- and those of a part before
         before : (a : ℕ) (d : Part) → a < i → (k : ℕ) → holds (get_or parts a d).bonds k ≡ true → holds p.bonds k ≡ false
@@ -99,8 +87,7 @@ module _ (inst : Ising) (good : IsInstance inst) (parts : List Part) (are : AreP
         before a d m k held other =
             let (first, is) = all_parts inst are.leasts parts are.each a d (omega (arith, m, l)) in
             let inside : k < bond_count inst = ((is.bonds k).0 held).0 in
-            let kept : get_or now k (pos 0) ≡ get_or old k (pos 0) =
-            get_or_default now k (pos 0) (pos 1) (omega (arith, inside, long)) ∙ writes.others k other
+            let kept = get_or_default now k (pos 0) (pos 1) (omega (arith, inside, long)) ∙ writes.others k other
             ∙ get_or_default old k (pos 1) (pos 0) (omega (arith, inside, was.count)) in
             subst (IsCost inst k) (sym kept) (was.each a d m k held)
 

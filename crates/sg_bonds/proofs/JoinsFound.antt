@@ -1,8 +1,8 @@
 -- What the calls for joins with an edge mark and weigh.
-use Rattle.std.proofs.Common.{inl, inr, ◌≡◌, ℕ, ◌^◌, ◌<◌, ◌≤◌, pos, ◌≤ℤ◌, Bool, true, false, cond, ◌&&◌, eqb, List, length, set, sym, ◌∙◌, ap, ap₂, subst, arith, All, to_z, w64}
+use Rattle.std.proofs.Common.{◌≡◌, ℕ, ◌^◌, ◌<◌, ◌≤◌, pos, ◌≤ℤ◌, Bool, true, false, cond, ◌&&◌, eqb, List, length, set, sym, ◌∙◌, ap, ap₂, subst, arith, All, to_z, w64}
 use Rattle.std.specs.Prelude.{FitsSigned}
 use Rattle.std.specs.List.Sorted.{IsStrictlyIncreasing}
-use Rattle.std.proofs.lemmas.Bool.{cases_eq, eq-eqb, ne_eqb}
+use Rattle.std.proofs.lemmas.Bool.{cases_eq}
 use Rattle.std.proofs.lemmas.Int.{fits_signed_from_abs, ints, to_z_pos}
 use Rattle.std.proofs.lemmas.List.{get_or-set_other, get_or-set_same, length-set}
 use Rattle.sg_limits.specs.Limits.{forced_limit}
@@ -114,16 +114,9 @@ module _ (g : Graph) (terminals : List ℕ) (k : ℕ) (inside : k < edge_count g
         ∙ get_or-set_same marks k false false (omega (arith, inside, long))
 
     same_edges : (e : ℕ) → e < edge_count g → is_marked (set (set marks k false) k has) e ≡ cond (eqb k e) has (holds rest e)
-    same_edges e l = elim (cases_eq k e) [
-      | inl same ↦
-          ap (is_marked (set (set marks k false) k has)) (sym same)
-          ∙ get_or-set_same (set marks k false) k has false (omega (arith, inside, bare_marks))
-          ∙ ap (λ b. cond b has (holds rest e)) (sym (eq-eqb k e same))
-      | inr ne ↦
-          get_or-set_other (set marks k false) k e has false (λ (same : e ≡ k). ne (sym same))
-          ∙ sym (places_hold (set marks k false) (edge_count g) bare_marks rest rest_is e l)
-          ∙ ap (λ b. cond b has (holds rest e)) (sym (ne_eqb k e ne))
-    ]
+    same_edges e l =
+        let there = places_hold (set marks k false) (edge_count g) bare_marks rest rest_is e l in
+        grind (arith, cases_eq k e, get_or-set_same, get_or-set_other, bare_marks, inside, there)
 
     all_edges : with_edge g rest k has ≡ all
     all_edges = sym (

@@ -19,3 +19,4 @@ pub mod WeakenedEnergy
 pub mod Weakening
 pub mod PartFlips
 pub mod EvenCosts
+pub mod OneEntry

@@ -1,8 +1,8 @@
 -- Bounds that are narrowed: what holds of one list of bounds holds of a tighter one, and what a state or a cost adds to them.
-use Rattle.std.proofs.Common.{All, ◌^◌, ◌-◌, ◌≡◌, ◌≢◌, ◌⊎◌, inl, inr, ℕ, ◌+◌, ◌<◌, Bool, true, ℤ, pos, neg_ℤ, ◌+ℤ◌, ◌≤ℤ◌, ◌<ℤ◌, List, length, get_or, map, replicate, refl, sym, ◌∙◌, subst, arith, set}
-use Rattle.std.proofs.lemmas.Bool.{cases_eq, cases_lt}
+use Rattle.std.proofs.Common.{All, ◌^◌, ◌-◌, ◌≡◌, ◌≢◌, ◌⊎◌, inl, inr, ℕ, ◌+◌, ◌<◌, Bool, true, ℤ, pos, neg_ℤ, ◌+ℤ◌, ◌≤ℤ◌, ◌<ℤ◌, List, length, get_or, map, refl, sym, ◌∙◌, subst, arith, set}
+use Rattle.std.proofs.lemmas.Bool.{cases_lt}
 use Rattle.std.proofs.lemmas.Int.{ints}
-use Rattle.std.proofs.lemmas.List.{get_or-map, get_or_default, get_or-set_same, get_or-set_other, get_or-replicate, length-map, length-replicate, length-set}
+use Rattle.std.proofs.lemmas.List.{get_or-map, get_or_default, get_or-set_same, length-map, length-set}
 use Rattle.sg_model.specs.Ising.{Ising, bond_at, bond_count}
 use Rattle.sg_model.specs.WellFormed.{IsInstance}
 use Rattle.sg_model.specs.Spins.{IsAssignment}
@@ -14,29 +14,24 @@ use Rattle.sg_bonds.specs.declared.bounds.Bound.{Bound}
 use Rattle.sg_bonds.specs.Bounds.{ForcedTablesExceed, AreBounds, AreKnown, BoundsCost, IsKnown, IsTighter, Narrows, bound_at, lowered, no_bound, unbounded}
 use Rattle.sg_bonds.proofs.ForcedMinimum.{unit_product}
 use Rattle.sg_bonds.proofs.OneCost.{cost-one}
+use Rattle.sg_bonds.proofs.OneEntry.{set_either}
 use Rattle.sg_bonds.proofs.PathBounds.{cost_not_negative, not_none, turned_costs}
 
 -- both bounds are this number
 abbrev pub just : ℤ → Bound
 just c = record { low = c; high = c }
 
-own : (x : ℤ) → x ≤ℤ x
-own x = omega (arith, ints)
-
-through : (x y z : ℤ) → x ≤ℤ y → y ≤ℤ z → x ≤ℤ z
-through x y z p q = omega (arith, ints)
-
 level : (x y : ℤ) → x ≤ℤ y → y ≤ℤ x → x ≡ y
 level x y p q = omega (arith, ints)
 
 -- a bound is as tight as itself
 tight_self : (b : Bound) → IsTighter b b
-tight_self b = record { low = own b.low; high = λ some. (some, own b.high) }
+tight_self b = record { low = omega (arith, ints); high = λ some. (some, omega (arith, ints)) }
 
 tight_through : (a b c : Bound) → IsTighter a b → IsTighter b c → IsTighter a c
 tight_through a b c p q = record {
-  low = through a.low b.low c.low p.low q.low;
-  high = λ some. (let (other, less) = p.high some in let (last, least) = q.high other in (last, through c.high b.high a.high least less));
+  low = omega (arith, ints, p.low, q.low);
+  high = λ some. (let (other, less) = p.high some in let (last, least) = q.high other in (last, omega (arith, ints, less, least)));
 }
 
 module _ (inst : Ising) where
@@ -59,29 +54,23 @@ module _ (inst : Ising) where
         → Narrows inst first (set bounds k now)
     narrows_set bound tight = record {
       count = length-set bounds k now ∙ narrowed.count;
-      bounds = λ are. record { count = length-set bounds k now ∙ (narrowed.bounds are).count; each = λ i l. bound_of are i (cases_eq i k) l };
+      bounds = λ are. record {
+        count = length-set bounds k now ∙ (narrowed.bounds are).count;
+        each = λ i l. set_either (BoundsCost inst) bounds now unbounded k i (omega (arith, inside, (narrowed.bounds are).count)) (bound are)
+            (λ _. (narrowed.bounds are).each i l);
+      };
       tighter = λ are i l.
-          tight_through (bound_at first i) (bound_at bounds i) (bound_at (set bounds k now) i) (narrowed.tighter are i l) (tight_of are i (cases_eq i k));
+          tight_through (bound_at first i) (bound_at bounds i) (bound_at (set bounds k now) i) (narrowed.tighter are i l)
+          (set_either (λ i b. IsTighter (bound_at bounds i) b) bounds now unbounded k i (omega (arith, inside, (narrowed.bounds are).count)) (tight are)
+          (λ _. tight_self (bound_at bounds i)));
     }
-      where
-        bound_of : AreBounds inst first → (i : ℕ) → (i ≡ k) ⊎ (i ≢ k) → i < bond_count inst → BoundsCost inst i (bound_at (set bounds k now) i)
-        bound_of are i (inl e) l =
-            subst (λ j. BoundsCost inst j (bound_at (set bounds k now) j)) (sym e) (subst (BoundsCost inst k) (sym (same_there are)) (bound are))
-        bound_of are i (inr ne) l = subst (BoundsCost inst i) (sym (get_or-set_other bounds k i now unbounded ne)) ((narrowed.bounds are).each i l)
-
-        tight_of : AreBounds inst first → (i : ℕ) → (i ≡ k) ⊎ (i ≢ k) → IsTighter (bound_at bounds i) (bound_at (set bounds k now) i)
-        tight_of are i (inl e) =
-            subst (λ j. IsTighter (bound_at bounds j) (bound_at (set bounds k now) j)) (sym e)
-            (subst (IsTighter (bound_at bounds k)) (sym (same_there are)) (tight are))
-        tight_of are i (inr ne) =
-            subst (IsTighter (bound_at bounds i)) (sym (get_or-set_other bounds k i now unbounded ne)) (tight_self (bound_at bounds i))
 
     -- the cost itself is as tight as can be
     module _ (c : ℤ) (cost : AreBounds inst first → IsCost inst k c) (is : now ≡ just c) where
       pub narrows_cost : Narrows inst first (set bounds k now)
       narrows_cost = narrows_set (λ are. subst (BoundsCost inst k) (sym is) (record {
-        low = λ d other. subst (λ x. c ≤ℤ x) (cost-one inst k c d (cost are) other) (own c);
-        high = λ some d other. subst (λ x. x ≤ℤ c) (cost-one inst k c d (cost are) other) (own c);
+        low = λ d other. omega (arith, ints, cost-one inst k c d (cost are) other);
+        high = λ some d other. omega (arith, ints, cost-one inst k c d (cost are) other);
       })) (λ are. subst (IsTighter (bound_at bounds k)) (sym is) (record {
         low = ((narrowed.bounds are).each k inside).low c (cost are);
         high = λ some. (not_none c (cost_not_negative inst k c (cost are)), ((narrowed.bounds are).each k inside).high some c (cost are));
@@ -125,17 +114,10 @@ module _ (inst : Ising) where
       × (now ≡ lowered (bound_at bounds k) cost))) where
     no_more : turns ≡ true → (c : ℤ) → IsCost inst k c → c ≤ℤ cost
     no_more yes_turned c is =
-        less (energy inst s) c cost (energy inst t)
-        (turned_costs inst good s ground k c t is (unit_product inst good k inside s ground.assignment) other (turned yes_turned)) above
-      where
-        less : (e c d x : ℤ) → (e +ℤ c) ≤ℤ x → x ≡ e +ℤ d → c ≤ℤ d
-        less e c d x p q = omega (arith, ints)
+        omega (arith, ints, above, turned_costs inst good s ground k c t is (unit_product inst good k inside s ground.assignment) other (turned yes_turned))
 
     some_above : pos 0 ≤ℤ cost
-    some_above = more (energy inst s) cost (energy inst t) (ground.least t other) above
-      where
-        more : (e d x : ℤ) → e ≤ℤ x → x ≡ e +ℤ d → pos 0 ≤ℤ d
-        more e d x p q = omega (arith, ints)
+    some_above = omega (arith, ints, ground.least t other, above)
 
     pub narrows_noted : Narrows inst first (set bounds k now)
     narrows_noted = narrows_set first bounds narrowed k now inside (λ are. bound are noted) (λ are. tight noted)
@@ -156,7 +138,7 @@ module _ (inst : Ising) where
             × (now ≡ lowered (bound_at bounds k) cost)) → IsTighter (bound_at bounds k) now
         tight (inl same) = subst (IsTighter (bound_at bounds k)) (sym same) (tight_self (bound_at bounds k))
         tight (inr (yes_turned, less, is)) = subst (IsTighter (bound_at bounds k)) (sym is) (record {
-          low = own (bound_at bounds k).low;
+          low = omega (arith, ints);
           high = λ some. (not_none cost some_above, fits (bound_at bounds k).high less some);
         })
 
@@ -164,19 +146,6 @@ module _ (inst : Ising) where
   pub forced_fit : ForcedTablesExceed (2 ^ 64 - 1) inst → ⊥
   forced_fit (inl h) = all_fit inst h
   forced_fit (inr (k, j, h)) = all_fit (with_coupling inst k j) h
-
-  -- where nothing is known, all bounds hold
-  pub none_known : (count : ℕ) → count ≡ bond_count inst → AreBounds inst (replicate count unbounded)
-  none_known count same = record {
-    count = length-replicate count unbounded ∙ same;
-    each = λ k l. subst (BoundsCost inst k) (sym (get_or-replicate count k unbounded unbounded (omega (arith, l, same)))) (record {
-      low = λ c cost. below c (cost_not_negative inst k c cost);
-      high = λ some c cost. absurd (some refl);
-    });
-  }
-    where
-      below : (c : ℤ) → pos 0 ≤ℤ c → no_bound ≤ℤ c
-      below c some = omega (arith, ints)
 
   -- if the costs of all bonds are known, the lower bounds are the costs
   pub costs_known : (bounds : List Bound) → length bounds ≡ bond_count inst → ((k : ℕ) → k < bond_count inst → IsKnown inst k (bound_at bounds k))

@@ -30,7 +30,7 @@ costs-one inst xs ys p q =
     ∙ sym (get_or_default ys k d (pos 0) (omega (arith, l, p.count, q.count))))
 
 -- a walk over bonds of one set is one over those of another that has them too
-walk-kept : (inst : Ising) (set other : ℕ → Bool) →
+pub walk-kept : (inst : Ising) (set other : ℕ → Bool) →
     ((b : ℕ) → b < bond_count inst → set b ≡ true → other b ≡ true) → (path : List ℕ) (a b : ℕ)
     → IsWalk inst set a path b → IsWalk inst other a path b
 walk-kept inst set other more [] a b w = w

@@ -1,7 +1,6 @@
 -- What a bond costs in its component it costs in the whole: the least energies of the other bonds cancel.
-use Rattle.std.proofs.Common.{inl, inr, ◌≡◌, ◌≢◌, ◌⊎◌, ℕ, ◌+◌, ◌<◌, ◌≤◌, ℤ, pos, negsuc, ◌+ℤ◌, ◌-ℤ◌, ◌*ℤ◌, ◌≤ℤ◌, Bool, true}
-use Rattle.std.proofs.Common.{false, cond, List, refl, sym, ◌∙◌, ap, ap₂, subst, arith, sum_by, length, get_or}
-use Rattle.std.specs.Prelude.{unsigned_abs}
+use Rattle.std.proofs.Common.{inl, inr, ◌≡◌, ◌≢◌, ℕ, ◌+◌, ◌<◌, ◌≤◌, ℤ, pos, negsuc, ◌+ℤ◌, ◌-ℤ◌, ◌*ℤ◌}
+use Rattle.std.proofs.Common.{false, cond, List, refl, sym, ◌∙◌, ap, ap₂, subst, arith, sum_by, length}
 use Rattle.std.proofs.lemmas.Bool.{cases_Bool, false≢true, false_from_ne_true}
 use Rattle.std.proofs.lemmas.Int.{ints}
 use Rattle.std.proofs.lemmas.List.Elements.{All-from_get_or}
@@ -44,23 +43,15 @@ module _ (inst : Ising) (good : IsInstance inst) (least : ℕ) (p : Part) (is : 
   -- the whole costs what the part and the other bonds cost
   split : (t q : List ℤ) → HasValues p.spins t q → whole_cost t ≡ part_cost q + outside t
   split t q values =
-      let inside : sum_below (λ k. cond (holds p.bonds k) (cost_at inst t k) 0) (bond_count inst) ≡ sum_by (cost_at inst t) p.bonds =
-      members_sum (cost_at inst t) p.bonds (bond_count inst) share.bonds_below share.bonds_rise in
+      let inside = members_sum (cost_at inst t) p.bonds (bond_count inst) share.bonds_below share.bonds_rise in
       let here : sum_by (cost_at inst t) p.bonds ≡ part_cost q = costs_over inst p.spins p.bonds p.planar.instance share t q values in
-      let all : whole_cost t ≡ sum_below (cost_at inst t) (bond_count inst) =
-      sum_by_is_sum_below (broken_cost t) inst.bonds (record { u = 0; v = 0; j = pos 0 }) in
-      let apart : sum_below (λ k. cond (holds p.bonds k) (cost_at inst t k) 0 + cond (holds p.bonds k) 0 (cost_at inst t k)) (bond_count inst) ≡
-      sum_below (λ k. cond (holds p.bonds k) (cost_at inst t k) 0) (bond_count inst) + outside t =
-      sum_below-add (λ k. cond (holds p.bonds k) (cost_at inst t k) 0) (λ k. cond (holds p.bonds k) 0 (cost_at inst t k)) (bond_count inst) in
+      let all = sum_by_is_sum_below (broken_cost t) inst.bonds (record { u = 0; v = 0; j = pos 0 }) in
+      let apart = sum_below-add (λ k. cond (holds p.bonds k) (cost_at inst t k) 0) (λ k. cond (holds p.bonds k) 0 (cost_at inst t k)) (bond_count inst) in
       let same : sum_below (cost_at inst t) (bond_count inst) ≡
       sum_below (λ k. cond (holds p.bonds k) (cost_at inst t k) 0 + cond (holds p.bonds k) 0 (cost_at inst t k)) (bond_count inst) =
       sum_below-same (cost_at inst t) (λ k. cond (holds p.bonds k) (cost_at inst t k) 0 + cond (holds p.bonds k) 0 (cost_at inst t k)) (bond_count inst)
-      (λ k l. either (holds p.bonds k) (cost_at inst t k)) in
+      (λ k l. grind arith) in
       omega (arith, all, same, apart, inside, here)
-    where
-      either : (b : Bool) (c : ℕ) → c ≡ cond b c 0 + cond b 0 c
-      either true c = omega arith
-      either false c = omega arith
 
   -- the assignment that the whole gives to the part
   part_assignment : (t : List ℤ) → IsAssignment inst t → IsAssignment p.planar.instance (values_in p.spins t)
@@ -81,16 +72,13 @@ module _ (inst : Ising) (good : IsInstance inst) (least : ℕ) (p : Part) (is : 
         writes = writes;
         assignment = record {
           count = writes.count ∙ h.count;
-          values = All-from_get_or IsUpOrDown now (pos 1) (λ x l. by_place now writes x (omega (arith, l, writes.count, h.count)) (cases_in p.spins x));
+          values = All-from_get_or IsUpOrDown now (pos 1) (λ x l. elim (cases_in p.spins x) [
+            | inl (i, m, same, held) ↦
+                subst IsUpOrDown (sym (ap (spin now) (sym same) ∙ writes.values i m)) (unit_at p.planar.instance q u i (omega (arith, m, share.spin_count)))
+            | inr (out, none) ↦ subst IsUpOrDown (sym (writes.others x none)) (unit_at inst t h x (omega (arith, l, writes.count, h.count)))
+          ]);
         };
       }
-    where
-      by_place : (now : List ℤ) → WritesAt p.spins q t now → (x : ℕ) → x < inst.n →
-          ((i : ℕ) × (i < length p.spins) × (get_or p.spins i 0 ≡ x) × (holds p.spins x ≡ true)) ⊎
-          (((i : ℕ) → i < length p.spins → get_or p.spins i 0 ≢ x) × (holds p.spins x ≡ false)) → IsUpOrDown (spin now x)
-      by_place now writes x l (inl (i, m, same, held)) =
-          subst IsUpOrDown (sym (ap (spin now) (sym same) ∙ writes.values i m)) (unit_at p.planar.instance q u i (omega (arith, m, share.spin_count)))
-      by_place now writes x l (inr (out, none)) = subst IsUpOrDown (sym (writes.others x none)) (unit_at inst t h x l)
 
   joins : (k : ℕ) → k < bond_count inst → IsBond inst.n (bond_at inst k)
   joins k l = good.draft.joined k (record { u = 0; v = 0; j = pos 0 }) l
@@ -110,36 +98,26 @@ module _ (inst : Ising) (good : IsInstance inst) (least : ℕ) (p : Part) (is : 
   same_outside : (t q now : List ℤ) → WritesAt p.spins q t now → outside now ≡ outside t
   same_outside t q now writes =
       sum_below-same (λ k. cond (holds p.bonds k) 0 (cost_at inst now k)) (λ k. cond (holds p.bonds k) 0 (cost_at inst t k)) (bond_count inst)
-      (λ k l. each k l (cases_Bool (holds p.bonds k)))
-    where
-      each : (k : ℕ) → k < bond_count inst → (holds p.bonds k ≡ true) ⊎ (holds p.bonds k ≡ false) →
-          cond (holds p.bonds k) 0 (cost_at inst now k) ≡ cond (holds p.bonds k) 0 (cost_at inst t k)
-      each k l (inl held) = rw held refl
-      each k l (inr out) = rw (writes.others (bond_at inst k).u (first_out k l out), writes.others (bond_at inst k).v (second_out k l out)) refl
+      (λ k l. elim (cases_Bool (holds p.bonds k)) [
+        | inl held ↦ rw held refl
+        | inr out ↦ rw (writes.others (bond_at inst k).u (first_out k l out), writes.others (bond_at inst k).v (second_out k l out)) refl
+      ])
 
   -- the energy of the whole by that of the part
   pub energy_split : (t q : List ℤ) → IsAssignment inst t → IsAssignment p.planar.instance q → HasValues p.spins t q →
       energy inst t ≡ energy p.planar.instance q +ℤ ((pos (outside t) +ℤ pos (weight p.planar.instance)) -ℤ pos (weight inst))
   energy_split t q h u values =
-      added (energy inst t) (energy p.planar.instance q) (whole_cost t) (part_cost q) (outside t) (weight inst) (weight p.planar.instance)
-      (energy_from_costs inst t good h) (energy_from_costs p.planar.instance q share.good u) (split t q values)
-    where
-      added : (e f : ℤ) (c a o w v : ℕ) → e ≡ pos c -ℤ pos w → f ≡ pos a -ℤ pos v → c ≡ a + o → e ≡ f +ℤ ((pos o +ℤ pos v) -ℤ pos w)
-      added e f c a o w v g k l = omega (arith, ints)
+      omega (arith, ints, energy_from_costs inst t good h, energy_from_costs p.planar.instance q share.good u, split t q values)
 
   module _ (g : List ℤ) (ground : IsGroundState inst g) where
     -- a ground state has the least outside
     least_outside : (t : List ℤ) → IsAssignment inst t → outside g ≤ outside t
     least_outside t h =
         let changed : Changed t (values_in p.spins g) = change t (values_in p.spins g) h (part_assignment g ground.assignment) in
-        less (energy inst g) (energy inst changed.now) (energy p.planar.instance (values_in p.spins g)) (outside g) (outside t) (outside changed.now)
-        (weight inst) (weight p.planar.instance)
-        (energy_split g (values_in p.spins g) ground.assignment (part_assignment g ground.assignment) (in_place p.spins g))
-        (energy_split changed.now (values_in p.spins g) changed.assignment (part_assignment g ground.assignment) changed.writes.values)
-        (same_outside t (values_in p.spins g) changed.now changed.writes) (ground.least changed.now changed.assignment)
-      where
-        less : (e f a : ℤ) (o u n w v : ℕ) → e ≡ a +ℤ ((pos o +ℤ pos v) -ℤ pos w) → f ≡ a +ℤ ((pos n +ℤ pos v) -ℤ pos w) → n ≡ u → e ≤ℤ f → o ≤ u
-        less e f a o u n w v h k same l = omega (arith, ints)
+        let own = energy_split g (values_in p.spins g) ground.assignment (part_assignment g ground.assignment) (in_place p.spins g) in
+        let new = energy_split changed.now (values_in p.spins g) changed.assignment (part_assignment g ground.assignment) changed.writes.values in
+        let same = same_outside t (values_in p.spins g) changed.now changed.writes in
+        omega (arith, ints, own, new, same, ground.least changed.now changed.assignment)
 
     abbrev others : ℤ
     others = (pos (outside g) +ℤ pos (weight p.planar.instance)) -ℤ pos (weight inst)
@@ -147,8 +125,7 @@ module _ (inst : Ising) (good : IsInstance inst) (least : ℕ) (p : Part) (is : 
     module _ (i : ℕ) (l : i < length p.bonds) where
       same_product : (t q : List ℤ) → HasValues p.spins t q → product t (bond_at inst (numbered p.bonds i)) ≡ product q (bond_at p.planar.instance i)
       same_product t q values =
-          let joined : IsBond p.planar.instance.n (bond_at p.planar.instance i) =
-          share.good.draft.joined i (record { u = 0; v = 0; j = pos 0 }) (omega (arith, l, share.bond_counts)) in
+          let joined = share.good.draft.joined i (record { u = 0; v = 0; j = pos 0 }) (omega (arith, l, share.bond_counts)) in
           ap₂ (λ x y. x *ℤ y)
           (ap (spin t) (sym (share.first_end i l)) ∙ values (bond_at p.planar.instance i).u (omega (arith, joined.first_end, share.spin_count)))
           (ap (spin t) (sym (share.second_end i l)) ∙ values (bond_at p.planar.instance i).v (omega (arith, joined.second_end, share.spin_count)))
@@ -165,14 +142,10 @@ module _ (inst : Ising) (good : IsInstance inst) (least : ℕ) (p : Part) (is : 
                   ∙ ap₂ (λ a o. a +ℤ ((pos o +ℤ pos (weight p.planar.instance)) -ℤ pos (weight inst))) value (same_outside g q changed.now changed.writes),
             );
             least = λ t a same.
-                less (energy inst t) (energy p.planar.instance (values_in p.spins t)) e (outside t) (outside g) (weight inst) (weight p.planar.instance)
-                (energy_split t (values_in p.spins t) a (part_assignment t a) (in_place p.spins t))
-                (h.least (values_in p.spins t) (part_assignment t a)
-                (sym (same_product t (values_in p.spins t) (in_place p.spins t)) ∙ same)) (least_outside t a);
+                let parted = energy_split t (values_in p.spins t) a (part_assignment t a) (in_place p.spins t) in
+                let most = h.least (values_in p.spins t) (part_assignment t a) (sym (same_product t (values_in p.spins t) (in_place p.spins t)) ∙ same) in
+                omega (arith, ints, parted, most, least_outside t a);
           }
-        where
-          less : (f a e : ℤ) (u o w v : ℕ) → f ≡ a +ℤ ((pos u +ℤ pos v) -ℤ pos w) → e ≤ℤ a → o ≤ u → (e +ℤ ((pos o +ℤ pos v) -ℤ pos w)) ≤ℤ f
-          less f a e u o w v h k l = omega (arith, ints)
 
       cost_in : (c : ℤ) → IsCost p.planar.instance i c → IsCost inst (numbered p.bonds i) c
       cost_in c cost = record {
@@ -180,11 +153,8 @@ module _ (inst : Ising) (good : IsInstance inst) (least : ℕ) (p : Part) (is : 
         unlike = cost.unlike +ℤ others;
         least_like = least_with_in (pos 1) cost.like cost.least_like;
         least_unlike = least_with_in (negsuc 0) cost.unlike cost.least_unlike;
-        apart = cost.apart ∙ ap (λ d. pos (unsigned_abs d)) (cancel cost.unlike cost.like others);
+        apart = omega (arith, ints, cost.apart);
       }
-        where
-          cancel : (a b d : ℤ) → a -ℤ b ≡ (a +ℤ d) -ℤ (b +ℤ d)
-          cancel a b d = omega (arith, ints)
 
   -- a cost of the part is one of the whole
   pub part_costs : (i : ℕ) → i < length p.bonds → (c : ℤ) → IsCost p.planar.instance i c → IsCost inst (numbered p.bonds i) c

@@ -1,7 +1,7 @@
 -- Assignments of which a part is flipped: their products, and their energies by sums over the bonds.
-use Rattle.std.proofs.Common.{◌≡◌, ◌≢◌, ◌⊎◌, inl, inr, ℕ, zero, suc, ◌+◌, ◌*◌, ◌^◌, ◌<◌, ◌≤◌, Bool, true, false, not, cond, eqb, ℤ, pos, neg_ℤ, ◌+ℤ◌, ◌-ℤ◌, ◌*ℤ◌, List, [], length, get_or, set, refl, sym, ◌∙◌, ap, ap₂, subst, arith, All}
+use Rattle.std.proofs.Common.{◌≡◌, ℕ, zero, suc, ◌+◌, ◌*◌, ◌^◌, ◌<◌, ◌≤◌, Bool, true, not, cond, eqb, ℤ, pos, neg_ℤ, ◌+ℤ◌, ◌-ℤ◌, ◌*ℤ◌, List, [], length, get_or, set, refl, sym, ◌∙◌, ap, ap₂, subst, arith, All}
 use Rattle.std.specs.Prelude.{unsigned_abs}
-use Rattle.std.proofs.lemmas.Bool.{cases_eq, cases_lt, eq-eqb, ne_eqb}
+use Rattle.std.proofs.lemmas.Bool.{cases_eq}
 use Rattle.std.proofs.lemmas.Int.{ints}
 use Rattle.std.proofs.lemmas.List.{get_or-set_other, get_or-set_same, get_or_default, length-set}
 use Rattle.std.proofs.lemmas.List.Elements.{All-from_get_or}
@@ -25,48 +25,27 @@ abbrev no_bond : Bond
 no_bond = record { u = 0; v = 0; j = pos 0 }
 
 sum_grows : (f : ℕ → ℕ) (n m : ℕ) → n ≤ m → sum_below f n ≤ sum_below f m
-sum_grows f n zero l = omega (arith, ap (sum_below f) (none n l))
-  where
-    none : (n : ℕ) → n ≤ 0 → n ≡ 0
-    none n l = omega (arith, l)
-sum_grows f n (suc m) l = elim (cases_lt m n) [
-  | inl all ↦ (let same : n ≡ suc m = omega (arith, all, l) in omega (arith, ap (sum_below f) same))
-  | inr less ↦ (let before : sum_below f n ≤ sum_below f m = sum_grows f n m less in omega (arith, before))
-]
-
-unit_flipped : (x : ℤ) → IsUpOrDown x → IsUpOrDown (neg_ℤ x)
-unit_flipped x (inl e) = inr (ap neg_ℤ e)
-unit_flipped x (inr e) = inl (ap neg_ℤ e)
+sum_grows f n zero l = grind arith
+sum_grows f n (suc m) l = grind (arith, cases_eq n (suc m), sum_grows f n m)
 
 unit_part : (b : Bool) (x : ℤ) → IsUpOrDown x → IsUpOrDown (cond b (neg_ℤ x) x)
-unit_part true x up = unit_flipped x up
-unit_part false x up = up
+unit_part b x up = grind (arith, ints, up)
 
 -- the product changes its sign where one of the two is flipped
 part_product : (p q : Bool) (x y : ℤ) → IsUpOrDown x → IsUpOrDown y
     → (cond p (neg_ℤ x) x *ℤ cond q (neg_ℤ y) y) ≡ cond (xor p q) (neg_ℤ (x *ℤ y)) (x *ℤ y)
-part_product true true x y (inl e) (inl f) = rw (e, f) refl
-part_product true true x y (inl e) (inr f) = rw (e, f) refl
-part_product true true x y (inr e) (inl f) = rw (e, f) refl
-part_product true true x y (inr e) (inr f) = rw (e, f) refl
-part_product true false x y (inl e) (inl f) = rw (e, f) refl
-part_product true false x y (inl e) (inr f) = rw (e, f) refl
-part_product true false x y (inr e) (inl f) = rw (e, f) refl
-part_product true false x y (inr e) (inr f) = rw (e, f) refl
-part_product false true x y (inl e) (inl f) = rw (e, f) refl
-part_product false true x y (inl e) (inr f) = rw (e, f) refl
-part_product false true x y (inr e) (inl f) = rw (e, f) refl
-part_product false true x y (inr e) (inr f) = rw (e, f) refl
-part_product false false x y up down = refl
+part_product p q x y up down = grind (arith, ints, up, down)
 
 -- a coupling times a product, and times the opposite one
 flipped_term : (b : Bool) (j p : ℤ) → IsUpOrDown p → j *ℤ cond b (neg_ℤ p) p ≡ (j *ℤ p) -ℤ cond b (pos 2 *ℤ (j *ℤ p)) (pos 0)
-flipped_term true j p (inl e) = rw e (omega (arith, ints))
-flipped_term true j p (inr e) = rw e (omega (arith, ints))
-flipped_term false j p up = none (j *ℤ p)
-  where
-    none : (x : ℤ) → x ≡ x -ℤ pos 0
-    none x = omega (arith, ints)
+flipped_term b j p up = grind (arith, ints, up)
+
+-- what is gained at one bond is no more than twice its size
+term_size : (b : Bool) (j p : ℤ) → IsUpOrDown p → unsigned_abs (cond b (pos 2 *ℤ (j *ℤ p)) (pos 0)) ≤ 2 * unsigned_abs j
+term_size b j p up = grind (arith, ints, up)
+
+one_size : (b : Bool) (j p : ℤ) → IsUpOrDown p → unsigned_abs (cond b (pos 0) (pos 2 *ℤ (j *ℤ p))) ≤ 2 * unsigned_abs j
+one_size b j p up = grind (arith, ints, up)
 
 module _ (inst : Ising) (s : List ℤ) (parts : List ℕ) where
   -- whether bond k connects the part with another
@@ -117,91 +96,38 @@ module _ (inst : Ising) (good : IsInstance inst) (s : List ℤ) (first : IsAssig
 
   total_is : (n : ℕ) → n ≤ bond_count inst → total (aligned_at inst other) n ≡ total (aligned_at inst s) n -ℤ total (gain_at inst s parts part) n
   total_is zero l = refl
-  total_is (suc n) l =
-      more (total (aligned_at inst other) n) (aligned_at inst other n) (total (aligned_at inst s) n) (aligned_at inst s n)
-      (total (gain_at inst s parts part) n) (gain_at inst s parts part n) (total_is n (omega (arith, l))) (term_is n (omega (arith, l)))
-    where
-      more : (w v x y a b : ℤ) → w ≡ x -ℤ a → v ≡ y -ℤ b → w +ℤ v ≡ (x +ℤ y) -ℤ (a +ℤ b)
-      more w v x y a b p q = omega (arith, ints)
+  total_is (suc n) l = omega (arith, ints, total_is n (omega (arith, l)), term_is n (omega (arith, l)))
 
   -- the energy of the assignment
   pub flipped_energy : energy inst other ≡ energy inst s +ℤ total (gain_at inst s parts part) (bond_count inst)
-  flipped_energy =
-      apart (energy inst other) (energy inst s) (total (aligned_at inst other) (bond_count inst)) (total (aligned_at inst s) (bond_count inst))
-      (total (gain_at inst s parts part) (bond_count inst)) (energy_is_total inst other) (energy_is_total inst s)
-      (total_is (bond_count inst) (omega arith))
-    where
-      apart : (e f x y g : ℤ) → e ≡ neg_ℤ x → f ≡ neg_ℤ y → x ≡ y -ℤ g → e ≡ f +ℤ g
-      apart e f x y g a b c = omega (arith, ints)
+  flipped_energy = omega (arith, ints, energy_is_total inst other, energy_is_total inst s, total_is (bond_count inst) (omega arith))
 
   -- the size of what is gained at the first bonds
   gain_size : (n : ℕ) → n ≤ bond_count inst → unsigned_abs (total (gain_at inst s parts part) n) ≤ 2 * sum_below (λ k. unsigned_abs (bond_at inst k).j) n
   gain_size zero l = omega arith
   gain_size (suc n) l =
-      both (total (gain_at inst s parts part) n) (gain_at inst s parts part n) (sum_below (λ k. unsigned_abs (bond_at inst k).j) n)
-      (unsigned_abs (bond_at inst n).j) (gain_size n (omega (arith, l)))
-      (term_size (leaves_part inst s parts part n) (bond_at inst n).j (product s (bond_at inst n)) (unit_product inst good n (omega (arith, l)) s first))
-    where
-      both : (x y : ℤ) (a b : ℕ) → unsigned_abs x ≤ 2 * a → unsigned_abs y ≤ 2 * b → unsigned_abs (x +ℤ y) ≤ 2 * (a + b)
-      both x y a b p q = omega (arith, ints)
-
-      term_size : (b : Bool) (j p : ℤ) → IsUpOrDown p → unsigned_abs (cond b (pos 2 *ℤ (j *ℤ p)) (pos 0)) ≤ 2 * unsigned_abs j
-      term_size true j p (inl e) = rw e (omega (arith, ints))
-      term_size true j p (inr e) = rw e (omega (arith, ints))
-      term_size false j p up = omega arith
+      let size = term_size (leaves_part inst s parts part n) (bond_at inst n).j (product s (bond_at inst n))
+      (unit_product inst good n (omega (arith, l)) s first) in
+      omega (arith, ints, gain_size n (omega (arith, l)), size)
 
   -- it is at most twice the sum of all sizes
   part_size : (n : ℕ) → n ≤ bond_count inst → unsigned_abs (total (gain_at inst s parts part) n) ≤ 2 * weight inst
   part_size n l =
-      omega (
-        arith,
-        gain_size n l,
-        sum_grows (λ k. unsigned_abs (bond_at inst k).j) n (bond_count inst) l,
-        sum_by_is_sum_below (λ (b : Bond). unsigned_abs b.j) inst.bonds no_bond,
-      )
-
--- what is gained at one bond is no more than twice its size
-one_size : (b : Bool) (j p : ℤ) → IsUpOrDown p → unsigned_abs (cond b (pos 0) (pos 2 *ℤ (j *ℤ p))) ≤ 2 * unsigned_abs j
-one_size true j p up = omega arith
-one_size false j p (inl e) = rw e (omega (arith, ints))
-one_size false j p (inr e) = rw e (omega (arith, ints))
+      let grows = sum_grows (λ k. unsigned_abs (bond_at inst k).j) n (bond_count inst) l in
+      omega (arith, gain_size n l, grows, sum_by_is_sum_below (λ (b : Bond). unsigned_abs b.j) inst.bonds no_bond)
 
 -- a bond whose ends are in two parts leaves both
 pub leaves_both : (p q : ℕ) → not (eqb p q) ≡ true → (xor (eqb p p) (eqb q p) ≡ true) × (xor (eqb p q) (eqb q q) ≡ true)
-leaves_both p q h = (
-  ap₂ xor (eq-eqb p p refl) (ne_eqb q p (λ e. apart (sym e))),
-  ap₂ xor (ne_eqb p q apart) (eq-eqb q q refl),
-)
-  where
-    apart : p ≢ q
-    apart e = (let yes : eqb p q ≡ true = eq-eqb p q e in cc)
+leaves_both p q h = (grind arith, grind arith)
 
 -- one of a list's numbers grows
 added_at : (xs : List ℤ) (i c : ℕ) (x : ℤ) → i < length xs
     → get_or (set xs i (get_or xs i (pos 0) +ℤ x)) c (pos 0) ≡ get_or xs c (pos 0) +ℤ cond (eqb i c) x (pos 0)
-added_at xs i c x l = by_case (cases_eq i c)
-  where
-    none : (y : ℤ) → y ≡ y +ℤ pos 0
-    none y = omega (arith, ints)
-
-    by_case : (i ≡ c) ⊎ (i ≢ c) → get_or (set xs i (get_or xs i (pos 0) +ℤ x)) c (pos 0) ≡ get_or xs c (pos 0) +ℤ cond (eqb i c) x (pos 0)
-    by_case (inl e) =
-        subst (λ j. get_or (set xs i (get_or xs i (pos 0) +ℤ x)) j (pos 0) ≡ get_or xs j (pos 0) +ℤ cond (eqb i j) x (pos 0)) e
-        (get_or-set_same xs i (get_or xs i (pos 0) +ℤ x) (pos 0) l ∙ sym (ap (λ b. get_or xs i (pos 0) +ℤ cond b x (pos 0)) (eq-eqb i i refl)))
-    by_case (inr ne) =
-        get_or-set_other xs i c (get_or xs i (pos 0) +ℤ x) (pos 0) (λ e. ne (sym e))
-        ∙ none (get_or xs c (pos 0))
-        ∙ sym (ap (λ b. get_or xs c (pos 0) +ℤ cond b x (pos 0)) (ne_eqb i c ne))
+added_at xs i c x l = grind (arith, ints, cases_eq i c, get_or-set_same, get_or-set_other)
 
 added_size : (xs : List ℤ) (i c : ℕ) (x : ℤ) → i < length xs
     → unsigned_abs (get_or (set xs i (get_or xs i (pos 0) +ℤ x)) c (pos 0)) ≤ unsigned_abs (get_or xs c (pos 0)) + unsigned_abs x
-added_size xs i c x l =
-    subst (λ (z : ℤ). unsigned_abs z ≤ unsigned_abs (get_or xs c (pos 0)) + unsigned_abs x) (sym (added_at xs i c x l))
-    (by_test (eqb i c) (get_or xs c (pos 0)))
-  where
-    by_test : (b : Bool) (y : ℤ) → unsigned_abs (y +ℤ cond b x (pos 0)) ≤ unsigned_abs y + unsigned_abs x
-    by_test true y = omega (arith, ints)
-    by_test false y = omega (arith, ints)
+added_size xs i c x l = grind (arith, ints, added_at xs i c x l)
 
 -- the parts at the two ends of a bond
 module _ (inst : Ising) (good : IsInstance inst) (names : List ℕ) (named : ArePartNames inst names) (k : ℕ) (inside : k < bond_count inst) where
@@ -217,23 +143,7 @@ module _ (inst : Ising) (good : IsInstance inst) (names : List ℕ) (named : Are
 -- what both ends of a bond add to a part
 both_ends : (p q c : ℕ) (y : ℤ)
     → (cond (eqb p c) (cond (eqb p q) (pos 0) y) (pos 0) +ℤ cond (eqb q c) (cond (eqb p q) (pos 0) y) (pos 0)) ≡ cond (xor (eqb p c) (eqb q c)) y (pos 0)
-both_ends p q c y = by_case (cases_eq p c) (cases_eq q c) (cases_eq p q)
-  where
-    one : (x : ℤ) → x +ℤ pos 0 ≡ x
-    one x = omega (arith, ints)
-
-    other : (x : ℤ) → pos 0 +ℤ x ≡ x
-    other x = omega (arith, ints)
-
-    by_case : (p ≡ c) ⊎ (p ≢ c) → (q ≡ c) ⊎ (q ≢ c) → (p ≡ q) ⊎ (p ≢ q)
-        → (cond (eqb p c) (cond (eqb p q) (pos 0) y) (pos 0) +ℤ cond (eqb q c) (cond (eqb p q) (pos 0) y) (pos 0)) ≡ cond (xor (eqb p c) (eqb q c)) y (pos 0)
-    by_case (inl e) (inl f) (inl g) = rw (eq-eqb p c e, eq-eqb q c f, eq-eqb p q g) refl
-    by_case (inl e) (inl f) (inr g) = absurd (g (e ∙ sym f))
-    by_case (inl e) (inr f) (inl g) = absurd (f (sym g ∙ e))
-    by_case (inl e) (inr f) (inr g) = rw (eq-eqb p c e, ne_eqb q c f, ne_eqb p q g) (one y)
-    by_case (inr e) (inl f) (inl g) = absurd (e (g ∙ f))
-    by_case (inr e) (inl f) (inr g) = rw (ne_eqb p c e, eq-eqb q c f, ne_eqb p q g) (other y)
-    by_case (inr e) (inr f) g = rw (ne_eqb p c e, ne_eqb q c f) refl
+both_ends p q c y = grind (arith, ints, cases_eq p c, cases_eq q c, cases_eq p q)
 
 -- after one bond more
 module _ (inst : Ising) (good : IsInstance inst) (s : List ℤ) (own : IsAssignment inst s) (names : List ℕ) (named : ArePartNames inst names)
@@ -265,16 +175,12 @@ module _ (inst : Ising) (good : IsInstance inst) (s : List ℤ) (own : IsAssignm
 
   -- what was gained, and what is added to it
   size_before : (part : ℕ) → part < inst.n → unsigned_abs (get_or gains part (pos 0)) ≤ 2 * weight inst
-  size_before part l =
-      subst (λ (z : ℤ). unsigned_abs z ≤ 2 * weight inst) (sym (before part l)) (part_size inst good s own names part k (omega (arith, inside)))
+  size_before part l = omega (arith, ap unsigned_abs (before part l), part_size inst good s own names part k (omega (arith, inside)))
 
   size_now : unsigned_abs x ≤ 2 * weight inst
   size_now =
-      omega (
-        arith,
-        one_size (eqb p q) (bond_at inst k).j (product s (bond_at inst k)) (unit_product inst good k inside s own),
-        coupling_size inst good k inside,
-      )
+      let size = one_size (eqb p q) (bond_at inst k).j (product s (bond_at inst k)) (unit_product inst good k inside s own) in
+      omega (arith, size, coupling_size inst good k inside)
 
   pub first_fits : weight inst ≤ sum_limit → unsigned_abs (get_or gains p (pos 0)) + unsigned_abs x < 2 ^ 63
   first_fits small = omega (arith, small, size_before p in_p, size_now)
@@ -284,17 +190,11 @@ module _ (inst : Ising) (good : IsInstance inst) (s : List ℤ) (own : IsAssignm
 
   pub gains_more : (part : ℕ) → part < inst.n → get_or (set once q (get_or once q (pos 0) +ℤ x)) part (pos 0) ≡ total (gain_at inst s names part) (k + 1)
   gains_more part l =
-      added_at once q part x (omega (arith, in_q, once_long))
-      ∙ ap (λ y. y +ℤ cond (eqb q part) x (pos 0)) (added_at gains p part x (omega (arith, in_p, long)))
-      ∙ assoc (get_or gains part (pos 0)) (cond (eqb p part) x (pos 0)) (cond (eqb q part) x (pos 0))
-      ∙ ap₂ (λ a b. a +ℤ b) (before part l) (both_ends p q part (pos 2 *ℤ aligned_at inst s k))
-      ∙ ap (total (gain_at inst s names part)) next
-    where
-      next : suc k ≡ k + 1
-      next = omega arith
-
-      assoc : (a b c : ℤ) → (a +ℤ b) +ℤ c ≡ a +ℤ (b +ℤ c)
-      assoc a b c = omega (arith, ints)
+      let next : suc k ≡ k + 1 = omega arith in
+      let first = added_at gains p part x (omega (arith, in_p, long)) in
+      let second = added_at once q part x (omega (arith, in_q, once_long)) in
+      let ends = both_ends p q part (pos 2 *ℤ aligned_at inst s k) in
+      omega (arith, ints, second, first, before part l, ends, ap (total (gain_at inst s names part)) next)
 
 -- names are below the number of spins
 pub names_below : (inst : Ising) (set : ℕ → Bool) (names : List ℕ) → AllNamed inst set names → ArePartNames inst names

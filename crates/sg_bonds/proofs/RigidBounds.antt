@@ -1,5 +1,5 @@
 -- A bond that another ground state turns is free.
-use Rattle.std.proofs.Common.{◌≡◌, inl, inr, ℕ, ◌<◌, ℤ, pos, neg_ℤ, ◌-ℤ◌, ◌≤ℤ◌, List, refl, sym, ◌∙◌, ap, subst, arith}
+use Rattle.std.proofs.Common.{◌≡◌, ℕ, ◌<◌, ℤ, pos, neg_ℤ, ◌≤ℤ◌, List, refl, sym, subst, arith}
 use Rattle.std.proofs.lemmas.Int.{ints}
 use Rattle.sg_model.specs.Ising.{Ising, bond_at, bond_count}
 use Rattle.sg_model.specs.WellFormed.{IsInstance}
@@ -18,13 +18,6 @@ module _ (inst : Ising) (good : IsInstance inst) (s : List ℤ) (ground : IsGrou
       → product t (bond_at inst k) ≡ neg_ℤ (product s (bond_at inst k)) → IsCost inst k (pos 0)
   free_turned t h level turned =
       cost_from_other inst good k s (product t (bond_at inst k)) (energy inst t) (pos 0) ground (unit_product inst good k inside t h)
-      (twice (product s (bond_at inst k)) (product t (bond_at inst k)) unit turned)
+      (grind (arith, ints, turned, unit))
       (record { reached = (t, h, refl, refl); least = λ x u same. subst (λ e. e ≤ℤ energy inst x) (sym level) (ground.least x u) })
-      (none (energy inst t) (energy inst s) level)
-    where
-      twice : (x p : ℤ) → IsUpOrDown x → p ≡ neg_ℤ x → x ≡ neg_ℤ p
-      twice x p (inl a) e = a ∙ sym (ap neg_ℤ (e ∙ ap neg_ℤ a))
-      twice x p (inr a) e = a ∙ sym (ap neg_ℤ (e ∙ ap neg_ℤ a))
-
-      none : (a b : ℤ) → a ≡ b → pos 0 ≡ a -ℤ b
-      none a b e = omega (arith, ints)
+      (omega (arith, ints, level))

@@ -19,10 +19,7 @@ use Rattle.sg_bonds.proofs.ForcedMinimum.{forced_minimum}
 
 -- one of the first values of a function is the least of them
 least_value : (f : ℕ → ℤ) (n : ℕ) → (k : ℕ) × ((j : ℕ) → j < n + 1 → f k ≤ℤ f j)
-least_value f zero = (0, λ j l. beats-kept f (f 0) (f 0) 0 refl (self (f 0)) (λ i m. absurd (omega (arith, m))) j l)
-  where
-    self : (x : ℤ) → x ≤ℤ x
-    self x = omega (arith, ints)
+least_value f zero = (0, λ j l. beats-kept f (f 0) (f 0) 0 refl (omega (arith, ints)) (λ i m. absurd (omega (arith, m))) j l)
 least_value f (suc n) =
     let (k, least) = least_value f n in
     by_lt_z (f (n + 1)) (f k)
@@ -40,8 +37,7 @@ module _ (inst : Ising) (good : IsInstance inst) (k : ℕ) (inside : k < bond_co
   some_least_with p up =
       let size : unsigned_abs (p *ℤ pos (weight inst + 1)) < 2 ^ 63 = omega (arith, signed_size p (pos (weight inst + 1)) up) in
       let forced : Ising = with_coupling inst k (p *ℤ pos (weight inst + 1)) in
-      let sound : IsInstance forced = recoupled_instance inst forced.bonds
-      (coupling_ends inst k (p *ℤ pos (weight inst + 1)) inside good.draft.joined size) good in
+      let sound = recoupled_instance inst forced.bonds (coupling_ends inst k (p *ℤ pos (weight inst + 1)) inside good.draft.joined size) good in
       let (s, ground) = some_ground_state forced sound in (
         (energy forced s +ℤ pos (weight inst + 1)) -ℤ (p *ℤ (bond_at inst k).j),
         forced_minimum inst good k inside p up (weight inst + 1) (omega arith) (energy forced s)

@@ -1,7 +1,6 @@
 -- Joins that assignments break, and the bonds that two assignments break differently.
-use Rattle.std.proofs.Common.{inl, inr, ◌≡◌, ◌≤◌, ℕ, ◌*◌, ◌<◌, ℤ, pos, neg_ℤ, negsuc, ◌+ℤ◌, ◌-ℤ◌, Bool, true, false, cond, eqb, List, length, map, sym, ◌∙◌, ap, ap₂, subst, arith}
+use Rattle.std.proofs.Common.{inl, inr, ◌≡◌, ◌≤◌, ℕ, ◌<◌, ℤ, pos, neg_ℤ, ◌+ℤ◌, ◌-ℤ◌, Bool, true, false, eqb, List, length, map, sym, ◌∙◌, ap, ap₂, subst, arith}
 use Rattle.std.specs.Prelude.{unsigned_abs}
-use Rattle.std.specs.Ordering.{int_eq}
 use Rattle.std.specs.List.{range_with_len}
 use Rattle.std.proofs.lemmas.Bool.{false≢true}
 use Rattle.std.proofs.lemmas.Int.{ints}
@@ -10,6 +9,7 @@ use Rattle.std.proofs.lemmas.List.FromFn.{get_or-range_with_len, length-range_wi
 use Rattle.sg_limits.specs.Limits.{forced_limit}
 use Rattle.sg_sums.specs.Parity.{parity_by, xor}
 use Rattle.sg_sums.specs.Sets.{chosen_below, is_marked}
+use Rattle.sg_sums.proofs.ParityLaws.{xor_self}
 use Rattle.sg_sums.proofs.RisingLists.{parity_of_rising}
 use Rattle.sg_model.specs.declared.bond.Bond.{Bond}
 use Rattle.sg_model.specs.Ising.{Ising, bond_at, bond_count}
@@ -17,7 +17,7 @@ use Rattle.sg_model.specs.WellFormed.{IsInstance}
 use Rattle.sg_model.specs.Connected.{IsConnected}
 use Rattle.sg_model.specs.Spins.{IsAssignment, IsUpOrDown}
 use Rattle.sg_model.specs.Energy.{energy, product, weight}
-use Rattle.sg_model.specs.Broken.{is_broken, is_negative}
+use Rattle.sg_model.specs.Broken.{is_broken}
 use Rattle.sg_graph.specs.Web.{weight_of}
 use Rattle.sg_graph.specs.Join.{IsJoin}
 use Rattle.sg_graph.proofs.OnceLists.{rising_light}
@@ -33,7 +33,7 @@ use Rattle.sg_ground.proofs.JoinFits.{join_below, join_fits}
 use Rattle.sg_bonds.specs.Cost.{IsLeastWith}
 use Rattle.sg_bonds.specs.JoinsWith.{IsLeastJoinWith, breaks_with}
 use Rattle.sg_bonds.specs.Turned.{HasBroken}
-use Rattle.sg_bonds.proofs.ForcedMinimum.{unit_product}
+use Rattle.sg_bonds.proofs.ForcedMinimum.{same_or_opposite, unit_product}
 use Rattle.sg_bonds.proofs.JoinStates.{state_least}
 use Rattle.sg_bonds.proofs.JoinsFound.{places_hold, places_low, places_rise}
 
@@ -43,13 +43,7 @@ module _ (p : Embedding) (planar : IsPlanar p) (edges : List ℕ) (join : IsJoin
   pub join_light : unsigned_abs w ≤ forced_limit
   join_light =
       let size : unsigned_abs w ≡ weight_of (dual_web p.instance p.faces) edges = ap unsigned_abs value in
-      omega (
-        arith,
-        size,
-        rising_light (dual_web p.instance p.faces) edges join.below join.rising,
-        dual_weight p.instance p.faces,
-        planar.sum,
-      )
+      omega (arith, size, rising_light (dual_web p.instance p.faces) edges join.below join.rising, dual_weight p.instance p.faces, planar.sum)
 
   module _ (connected : IsConnected p.instance) (e : ℤ) (is : e ≡ (w +ℤ w) -ℤ pos (weight p.instance)) where
     abbrev joined_down : (ℕ → Bool) → List Bool
@@ -59,9 +53,6 @@ module _ (p : Embedding) (planar : IsPlanar p) (edges : List ℕ) (join : IsJoin
     marked t x l =
         get_or-map t (range_with_len 0 p.instance.n) x 0 false (omega (arith, length-range_with_len 0 p.instance.n))
         ∙ ap t (get_or-range_with_len 0 p.instance.n x 0 l ∙ omega arith)
-
-    twice : (e w : ℤ) (k v : ℕ) → e ≡ (w +ℤ w) -ℤ pos v → w ≡ pos k → pos (2 * k) -ℤ pos v ≡ e
-    twice e w k v h l = omega (arith, ints)
 
     -- on the plane some assignment breaks just the join
     pub join_broken : HasBroken p.instance e edges
@@ -77,9 +68,7 @@ module _ (p : Embedding) (planar : IsPlanar p) (edges : List ℕ) (join : IsJoin
         record {
           state = s;
           assignment = assigned;
-          value =
-              energy_of_join p.instance p.faces planar.instance planar.faces s edges assigned breaks join
-              ∙ twice e w (weight_of (dual_web p.instance p.faces) edges) (weight p.instance) is value;
+          value = omega (arith, ints, energy_of_join p.instance p.faces planar.instance planar.faces s edges assigned breaks join, is, value);
           breaks = breaks;
           rising = join.rising;
           below = join_below p.instance p.faces edges join;
@@ -95,22 +84,12 @@ module _ (p : Embedding) (planar : IsPlanar p) (edges : List ℕ) (join : IsJoin
 
 -- a bond that one of two assignments breaks has another product in the other
 module _ (b : Bond) (s t : List ℤ) where
-  apart : (n : Bool) (x y : ℤ) → IsUpOrDown x → IsUpOrDown y
-      → xor (cond n (int_eq x (pos 1)) (int_eq x (negsuc 0))) (cond n (int_eq y (pos 1)) (int_eq y (negsuc 0))) ≡ true → y ≡ neg_ℤ x
-  apart n x y (inl p) (inr q) h = q ∙ sym (ap neg_ℤ p)
-  apart n x y (inr p) (inl q) h = q ∙ sym (ap neg_ℤ p)
-  apart true x y (inl p) (inl q) h =
-      absurd (false≢true (sym (ap₂ (λ u v. xor (int_eq u (pos 1)) (int_eq v (pos 1))) p q) ∙ h))
-  apart false x y (inl p) (inl q) h =
-      absurd (false≢true (sym (ap₂ (λ u v. xor (int_eq u (negsuc 0)) (int_eq v (negsuc 0))) p q) ∙ h))
-  apart true x y (inr p) (inr q) h =
-      absurd (false≢true (sym (ap₂ (λ u v. xor (int_eq u (pos 1)) (int_eq v (pos 1))) p q) ∙ h))
-  apart false x y (inr p) (inr q) h =
-      absurd (false≢true (sym (ap₂ (λ u v. xor (int_eq u (negsuc 0)) (int_eq v (negsuc 0))) p q) ∙ h))
-
   pub broken_apart : IsUpOrDown (product s b) → IsUpOrDown (product t b) → xor (is_broken s b) (is_broken t b) ≡ true
       → product t b ≡ neg_ℤ (product s b)
-  broken_apart up other h = apart (is_negative b) (product s b) (product t b) up other h
+  broken_apart up other h = elim (same_or_opposite (product s b) (product t b) up other) [
+    | inl same ↦ absurd (false≢true (sym (xor_self (is_broken s b)) ∙ ap (λ q. xor (is_broken s b) (breaks_with b q)) same ∙ h))
+    | inr turned ↦ turned
+  ]
 
 module _ (inst : Ising) (good : IsInstance inst) (s : List ℤ) (assigned : IsAssignment inst s) (e : ℤ) (bonds : List ℕ) (has : HasBroken inst e bonds)
     (first marks : List Bool) (first_is : first ≡ map (is_broken s) inst.bonds)
@@ -121,10 +100,8 @@ module _ (inst : Ising) (good : IsInstance inst) (s : List ℤ) (assigned : IsAs
   -- what is marked where one of two states breaks a bond has other products there
   pub marks_turn : (k : ℕ) → k < bond_count inst → is_marked marks k ≡ true → product has.state (bond_at inst k) ≡ neg_ℤ (product s (bond_at inst k))
   marks_turn k l marked =
-      let own : is_marked first k ≡ is_broken s (bond_at inst k) =
-      ap (λ (m : List Bool). is_marked m k) first_is ∙ get_or-map (is_broken s) inst.bonds k (record { u = 0; v = 0; j = pos 0 }) false l in
-      let other : parity_by (λ i. eqb i k) bonds ≡ is_broken has.state (bond_at inst k) =
-      parity_of_rising bonds (bond_count inst) k has.below has.rising l ∙ sym (has.breaks k l) in
+      let own = ap (λ (m : List Bool). is_marked m k) first_is ∙ get_or-map (is_broken s) inst.bonds k (record { u = 0; v = 0; j = pos 0 }) false l in
+      let other = parity_of_rising bonds (bond_count inst) k has.below has.rising l ∙ sym (has.breaks k l) in
       broken_apart (bond_at inst k) s has.state (unit_product inst good k l s assigned) (unit_product inst good k l has.state has.assignment)
       (sym (turned k (omega (arith, first_long, l)) ∙ ap₂ xor own other) ∙ marked)
 

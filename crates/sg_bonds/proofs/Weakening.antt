@@ -1,6 +1,6 @@
 -- Weakened instances as a solver takes them, and what their ground states tell.
-use Rattle.std.proofs.Common.{◌≡◌, ◌≢◌, ◌⊎◌, inl, inr, ℕ, ◌+◌, ◌-◌, ◌*◌, ◌^◌, ◌<◌, ◌≤◌, Bool, true, false, cond, eqb, ℤ, pos, neg_ℤ, ◌+ℤ◌, ◌*ℤ◌}
-use Rattle.std.proofs.Common.{◌≤ℤ◌, ◌<ℤ◌, List, get_or, map, set, replicate, refl, sym, ◌∙◌, ap, subst, arith}
+use Rattle.std.proofs.Common.{◌≡◌, ◌≢◌, ◌⊎◌, inl, inr, ℕ, ◌+◌, ◌-◌, ◌*◌, ◌^◌, ◌<◌, ◌≤◌, true, false, cond, eqb, ℤ, pos, neg_ℤ, ◌+ℤ◌, ◌*ℤ◌}
+use Rattle.std.proofs.Common.{◌≤ℤ◌, ◌<ℤ◌, List, get_or, map, set, replicate, sym, ◌∙◌, ap, subst, arith}
 use Rattle.std.specs.Prelude.{unsigned_abs}
 use Rattle.std.specs.List.{range_with_len}
 use Rattle.std.proofs.Math.ListN.{get_or-map}
@@ -78,15 +78,8 @@ module _ (inst : Ising) (scale : ℕ) (s : List ℤ) (first : IsAssignment inst 
   -- and else it has more
   pub other_less : (energy (weakened inst scale s amount) s ≡ energy (weakened inst scale s amount) t → ⊥)
       → energy (weakened inst scale s amount) t <ℤ energy (weakened inst scale s amount) s
-  other_less differ =
-      below (energy (weakened inst scale s amount) s) (energy (weakened inst scale s amount) t) differ
-      (ground.least s (record { count = first.count; values = first.values }))
-    where
-      below : (x y : ℤ) → (x ≡ y → ⊥) → y ≤ℤ x → y <ℤ x
-      below x y ne l = by_lt_z y x (λ less. less) (λ most. absurd (ne (both x y most l)))
-        where
-          both : (x y : ℤ) → x ≤ℤ y → y ≤ℤ x → x ≡ y
-          both x y a b = omega (arith, ints)
+  other_less differ = by_lt_z (energy (weakened inst scale s amount) t) (energy (weakened inst scale s amount) s) (λ less. less)
+      (λ most. absurd (differ (omega (arith, ints, most, ground.least s (record { count = first.count; values = first.values })))))
 
 -- one bond alone is weakened by 1
 module _ (inst : Ising) (k : ℕ) (inside : k < bond_count inst) where
@@ -94,17 +87,7 @@ module _ (inst : Ising) (k : ℕ) (inside : k < bond_count inst) where
   alone = set (replicate (bond_count inst) 0) k 1
 
   alone_at : (i : ℕ) → i < bond_count inst → amount_at alone i ≡ cond (eqb k i) 1 0
-  alone_at i l = by_case (cases_eq k i)
-    where
-      by_case : (k ≡ i) ⊎ (k ≢ i) → amount_at alone i ≡ cond (eqb k i) 1 0
-      by_case (inl e) =
-          ap (amount_at alone) (sym e)
-          ∙ get_or-set_same (replicate (bond_count inst) 0) k 1 0 (omega (arith, inside, length-replicate {A = ℕ} (bond_count inst) 0))
-          ∙ sym (ap (λ b. cond {A = ℕ} b 1 0) (eq-eqb k i e))
-      by_case (inr ne) =
-          get_or-set_other (replicate (bond_count inst) 0) k i 1 0 (λ e. ne (sym e))
-          ∙ get_or-replicate (bond_count inst) i 0 0 l
-          ∙ sym (ap (λ b. cond {A = ℕ} b 1 0) (ne_eqb k i ne))
+  alone_at i l = grind (arith, cases_eq k i, get_or-set_same, get_or-set_other, get_or-replicate, length-replicate)
 
   pub alone_sum : sum_below (amount_at alone) (bond_count inst) ≡ 1
   alone_sum =
@@ -133,15 +116,11 @@ module _ (inst : Ising) (k : ℕ) (inside : k < bond_count inst) where
         second : IsAssignment inst t
         second = record { count = other.assignment.count; values = other.assignment.values }
 
-        never : (b : Bool) → cond {A = ℕ} b 0 0 ≡ 0
-        never true = refl
-        never false = refl
-
         by_case : (i : ℕ) → (k ≡ i) ⊎ (k ≢ i)
             → cond {A = ℕ} (turns s t (bond_at inst i)) (cond {A = ℕ} (eqb k i) 1 0) 0 ≡
             cond {A = ℕ} (eqb k i) (cond {A = ℕ} (turns s t (bond_at inst k)) 1 0) 0
         by_case i (inl e) = rw (eq-eqb k i e) (ap (λ j. cond {A = ℕ} (turns s t (bond_at inst j)) 1 0) (sym e))
-        by_case i (inr ne) = rw (ne_eqb k i ne) (never (turns s t (bond_at inst i)))
+        by_case i (inr ne) = rw (ne_eqb k i ne) (grind arith)
 
         turned : turned_amount inst s t (amount_at alone) ≡ cond {A = ℕ} (turns s t (bond_at inst k)) 1 0
         turned =
@@ -149,6 +128,9 @@ module _ (inst : Ising) (k : ℕ) (inside : k < bond_count inst) where
             (λ i. cond {A = ℕ} (eqb k i) (cond {A = ℕ} (turns s t (bond_at inst k)) 1 0) 0) (bond_count inst)
             (λ i l. ap (λ a. cond {A = ℕ} (turns s t (bond_at inst i)) a 0) (alone_at i l) ∙ by_case i (cases_eq k i))
             ∙ sum_below_pick (cond {A = ℕ} (turns s t (bond_at inst k)) 1 0) k (bond_count inst) inside
+
+        none_there : turned_amount inst s s (amount_at alone) ≡ 0
+        none_there = none_turned inst good 2 s ground.assignment (amount_at alone)
 
         old : energy (weakened inst 2 s (amount_at alone)) s +ℤ pos (2 * turned_amount inst s s (amount_at alone)) ≡ (pos 2 *ℤ energy inst s) +ℤ
             pos (sum_below (amount_at alone) (bond_count inst))
@@ -158,37 +140,17 @@ module _ (inst : Ising) (k : ℕ) (inside : k < bond_count inst) where
             pos (sum_below (amount_at alone) (bond_count inst))
         new = weakened_energy inst good 2 s ground.assignment (amount_at alone) t second
 
-        same : (e f x y : ℤ) (b c a : ℕ) → e +ℤ pos (2 * b) ≡ (pos 2 *ℤ x) +ℤ pos a → f +ℤ pos (2 * c) ≡ (pos 2 *ℤ y) +ℤ pos a → b ≡ 0
-            → c ≤ 1 → f <ℤ e → x ≤ℤ y → y ≡ x
-        same e f x y b c a p q z o l m = omega (arith, ints)
-
-        none : (e f x y : ℤ) (b c a : ℕ) → e +ℤ pos (2 * b) ≡ (pos 2 *ℤ x) +ℤ pos a → f +ℤ pos (2 * c) ≡ (pos 2 *ℤ y) +ℤ pos a → b ≡ 0
-            → c ≡ 0 → f <ℤ e → x ≤ℤ y → ⊥
-        none e f x y b c a p q z o l m = omega (arith, ints)
-
-        zero_cost : pos 0 ≤ℤ pos 0
-        zero_cost = omega (arith, ints)
-
         by_turn : (turns s t (bond_at inst k) ≡ true) ⊎ (turns s t (bond_at inst k) ≡ false) → ⊥
         by_turn (inl turn) =
-            not_rigid inst k (pos 0)
-            (free_turned inst good s ground k inside t second
-            (same (energy (weakened inst 2 s (amount_at alone)) s) (energy (weakened inst 2 s (amount_at alone)) t) (energy inst s) (energy inst t)
-            (turned_amount inst s s (amount_at alone)) (turned_amount inst s t (amount_at alone)) (sum_below (amount_at alone) (bond_count inst))
-            old new (none_turned inst good 2 s ground.assignment (amount_at alone))
-            (omega (arith, turned ∙ ap (λ b. cond {A = ℕ} b 1 0) turn)) less (ground.least t second))
-            ((Decides-int_eq (product t (bond_at inst k)) (neg_ℤ (product s (bond_at inst k)))).0 turn))
-            zero_cost rigid
+            let once = turned ∙ ap (λ b. cond {A = ℕ} b 1 0) turn in
+            let level : energy inst t ≡ energy inst s = omega (arith, ints, old, new, none_there, once, less, ground.least t second) in
+            not_rigid inst k (pos 0) (free_turned inst good s ground k inside t second level
+            ((Decides-int_eq (product t (bond_at inst k)) (neg_ℤ (product s (bond_at inst k)))).0 turn)) (omega (arith, ints)) rigid
         by_turn (inr not) =
-            none (energy (weakened inst 2 s (amount_at alone)) s) (energy (weakened inst 2 s (amount_at alone)) t) (energy inst s) (energy inst t)
-            (turned_amount inst s s (amount_at alone)) (turned_amount inst s t (amount_at alone)) (sum_below (amount_at alone) (bond_count inst))
-            old new (none_turned inst good 2 s ground.assignment (amount_at alone))
-            (turned ∙ ap (λ b. cond {A = ℕ} b 1 0) not) less (ground.least t second)
+            let none = turned ∙ ap (λ b. cond {A = ℕ} b 1 0) not in
+            omega (arith, ints, old, new, none_there, none, less, ground.least t second)
 
--- tables that are too large, of the instance as it was and of a weakened one
-pub own_exceeds : (inst : Ising) (most : ℕ) (e : Unproved) → IfTooLarge (TablesExceed most inst) e → IfTooLarge (WeakenedTablesExceed most inst) e
-own_exceeds inst most = IfTooLarge-weaker inl
-
+-- tables that are too large, of a weakened instance
 pub weaker_exceeds : (inst other : Ising) (scale : ℕ) (s : List ℤ) (amount : ℕ → ℕ) → other ≡ weakened inst scale s amount → (most : ℕ) (e : Unproved)
     → IfTooLarge (TablesExceed most other) e → IfTooLarge (WeakenedTablesExceed most inst) e
 weaker_exceeds inst other scale s amount same most = IfTooLarge-weaker (λ h. inr (scale, s, amount, subst (TablesExceed most) same h))
