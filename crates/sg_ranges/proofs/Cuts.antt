@@ -1,5 +1,5 @@
 -- Cuts as energies.
-use Rattle.std.proofs.Common.{◌≡◌, inl, inr, ℕ, ◌+◌, ◌*◌, ◌≤◌, ℤ, pos, neg_ℤ, ◌+ℤ◌, ◌-ℤ◌, ◌*ℤ◌, ◌≤ℤ◌, Bool, true, false, cond, not, List, [], ◌∷◌, map, fold, refl, sym, ◌∙◌, ap, subst, arith, All, sum_by, to_z, of_z, w64, ◌^◌}
+use Rattle.std.proofs.Common.{◌≡◌, ◌+◌, ◌*◌, ◌≤◌, ℤ, pos, neg_ℤ, ◌+ℤ◌, ◌-ℤ◌, ◌*ℤ◌, cond, not, List, [], ◌∷◌, map, fold, refl, sym, ◌∙◌, ap, subst, arith, All, sum_by, to_z, of_z, w64, ◌^◌}
 use Rattle.std.specs.Prelude.{FitsSigned, unsigned_abs}
 use Rattle.std.specs.Int.{w128}
 use Rattle.std.specs.Ordering.{int_eq}
@@ -29,10 +29,7 @@ one_bond : (s : List ℤ) (b : Bond) → HasUnitEnds s b → neg_ℤ b.j *ℤ pr
 one_bond s b h = by_ends (spin s b.u) (spin s b.v) b.j h.first h.second
   where
     by_ends : (x y j : ℤ) → IsUpOrDown x → IsUpOrDown y → neg_ℤ j *ℤ (x *ℤ y) ≡ (pos 2 *ℤ cond (not (int_eq x y)) j (pos 0)) -ℤ j
-    by_ends x y j (inl p) (inl q) = rw (p, q) (omega (arith, ints))
-    by_ends x y j (inl p) (inr q) = rw (p, q) (omega (arith, ints))
-    by_ends x y j (inr p) (inl q) = rw (p, q) (omega (arith, ints))
-    by_ends x y j (inr p) (inr q) = rw (p, q) (omega (arith, ints))
+    by_ends x y j p q = grind (arith, ints, p, q)
 
 bond_by_bond : (s : List ℤ) (a b c : ℤ) (bonds : List Bond) → All (HasUnitEnds s) bonds → a ≡ (pos 2 *ℤ b) -ℤ c →
     fold (λ total b. total +ℤ (b.j *ℤ product s b)) a (map opposite bonds) ≡
@@ -40,37 +37,25 @@ bond_by_bond : (s : List ℤ) (a b c : ℤ) (bonds : List Bond) → All (HasUnit
 bond_by_bond s a b c [] h e = e
 bond_by_bond s a b c (d ∷ bonds) h e =
     bond_by_bond s (a +ℤ (neg_ℤ d.j *ℤ product s d)) (b +ℤ part s d) (c +ℤ d.j) bonds (All-tail (HasUnitEnds s) d bonds h)
-    (more a b c (neg_ℤ d.j *ℤ product s d) (part s d) d.j e (one_bond s d (All-head (HasUnitEnds s) d bonds h)))
-  where
-    more : (a b c x p j : ℤ) → a ≡ (pos 2 *ℤ b) -ℤ c → x ≡ (pos 2 *ℤ p) -ℤ j → a +ℤ x ≡ (pos 2 *ℤ (b +ℤ p)) -ℤ (c +ℤ j)
-    more a b c x p j e f = omega (arith, ints)
+    (omega (arith, ints, e, one_bond s d (All-head (HasUnitEnds s) d bonds h)))
 
 -- with every sign changed, the energy is the sum of all couplings less twice the weight of the cut
 pub energy_negated : (inst : Ising) (s : List ℤ) → IsInstance inst → IsAssignment inst s
     → energy (negated inst) s ≡ coupling_sum inst -ℤ (pos 2 *ℤ cut_weight inst s)
-energy_negated inst s good h = turned (fold (λ total b. total +ℤ (b.j *ℤ product s b)) (pos 0) (map opposite inst.bonds)) (coupling_sum inst)
-    (cut_weight inst s) (bond_by_bond s (pos 0) (pos 0) (pos 0) inst.bonds (unit_ends inst s good h) refl)
-  where
-    turned : (f a c : ℤ) → f ≡ (pos 2 *ℤ c) -ℤ a → neg_ℤ f ≡ a -ℤ (pos 2 *ℤ c)
-    turned f a c e = omega (arith, ints)
+energy_negated inst s good h =
+    let sum = bond_by_bond s (pos 0) (pos 0) (pos 0) inst.bonds (unit_ends inst s good h) refl in
+    omega (arith, ints, sum)
 
 -- a sum of parts, each of which is at most the coupling in size
 parts_size : (f : Bond → ℤ) → ((b : Bond) → unsigned_abs (f b) ≤ unsigned_abs b.j) → (total : ℤ) (bonds : List Bond) →
     unsigned_abs (fold (λ total b. total +ℤ f b) total bonds) ≤ unsigned_abs total + sum_by (λ b. unsigned_abs b.j) bonds
 parts_size f small total [] = omega arith
 parts_size f small total (b ∷ bonds) =
-    more total (f b) (unsigned_abs b.j) _ _ _ (small b) (sum_by-cons (λ b. unsigned_abs b.j) b bonds) (parts_size f small (total +ℤ f b) bonds)
-  where
-    more : (t x : ℤ) (j r v w : ℕ) → unsigned_abs x ≤ j → v ≡ j + r → w ≤ unsigned_abs (t +ℤ x) + r → w ≤ unsigned_abs t + v
-    more t x j r v w p e l = omega (arith, ints)
+    omega (arith, ints, small b, sum_by-cons (λ b. unsigned_abs b.j) b bonds, parts_size f small (total +ℤ f b) bonds)
 
 -- the weight of a cut is at most the weight of all bonds in size
 pub cut_size : (inst : Ising) (s : List ℤ) → unsigned_abs (cut_weight inst s) ≤ weight inst
-cut_size inst s = omega (arith, parts_size (part s) (λ b. at_most (is_cut s b) b.j) (pos 0) inst.bonds)
-  where
-    at_most : (on : Bool) (j : ℤ) → unsigned_abs (cond on j (pos 0)) ≤ unsigned_abs j
-    at_most true j = omega arith
-    at_most false j = omega arith
+cut_size inst s = omega (arith, parts_size (part s) (λ b. grind arith) (pos 0) inst.bonds)
 
 -- the sum over the bonds as they are lent, in 128 bits and then in 64
 module _ (inst : Ising) (s : List ℤ) (small : weight inst ≤ forced_limit) (x : ℤ) (bonds : List Bond) (size : unsigned_abs x ≤ 2 ^ 24 * 2 ^ 63)
@@ -99,8 +84,9 @@ module _ (inst other : Ising) (good : IsInstance inst) (same : other ≡ negated
   cut_found x g value = record {
     assignment = here;
     weight = sym value;
-    largest = λ t h. most (energy (negated inst) s) (energy (negated inst) t) (coupling_sum inst) (cut_weight inst s) (cut_weight inst t) x
-        (energy_negated inst s good here) (energy_negated inst t good h) value (ground.least t (record { count = h.count; values = h.values }));
+    largest = λ t h.
+        let own = energy_negated inst s good here in
+        omega (arith, ints, own, energy_negated inst t good h, value, ground.least t (record { count = h.count; values = h.values }));
   }
     where
       ground : IsGroundState (negated inst) s
@@ -108,9 +94,6 @@ module _ (inst other : Ising) (good : IsInstance inst) (same : other ≡ negated
 
       here : IsAssignment inst s
       here = record { count = ground.assignment.count; values = ground.assignment.values }
-
-      most : (e f a c d x : ℤ) → e ≡ a -ℤ (pos 2 *ℤ c) → f ≡ a -ℤ (pos 2 *ℤ d) → x ≡ c → e ≤ℤ f → d ≤ℤ x
-      most e f a c d x g h i l = omega (arith, ints)
 
   -- and what proves the one proves the other
   pub cut_proved : (x e : ℤ) (loops : List Loop) → Proves other s e loops → x ≡ cut_weight inst s

@@ -2,8 +2,7 @@
 use Rattle.std.proofs.Common.{◌≡◌, inl, inr, ℕ, ◌+◌, ◌*◌, ◌<◌, ◌≤◌, ◌^◌, ℤ, pos, negsuc, ◌+ℤ◌, ◌-ℤ◌, ◌*ℤ◌, ◌≤ℤ◌, ◌<ℤ◌, List, [], ◌∷◌, ◌++◌, length, get_or, sum_by, sym, ◌∙◌, ap, ap₂, subst, arith, to_z, of_z, w64}
 use Rattle.std.specs.Prelude.{FitsSigned, unsigned_abs}
 use Rattle.std.proofs.lemmas.Int.{ints, to_z-of_z}
-use Rattle.std.proofs.lemmas.Bool.{cases_lt}
-use Rattle.std.proofs.lemmas.List.{get_or-set_same, get_or_append_left, get_or_default, get_or_push, same_lists}
+use Rattle.std.proofs.lemmas.List.{get_or-set_same, get_or_default, same_lists}
 use Rattle.sg_model.specs.declared.bond.Bond.{Bond}
 use Rattle.sg_model.specs.Ising.{Ising, bond_at, bond_count}
 use Rattle.sg_model.specs.WellFormed.{IsInstance}
@@ -14,9 +13,10 @@ use Rattle.sg_model.proofs.BrokenEnergy.{broken_weight, energy_from_broken}
 use Rattle.sg_model.proofs.CoupledEnergy.{energy_coupled}
 use Rattle.sg_bonds.specs.Cost.{IsCost, IsLeastWith}
 use Rattle.sg_bonds.proofs.CostNumbers.{kept_small, kept_unit}
+use Rattle.sg_bonds.proofs.EvenCosts.{even_cost, most_cost}
 use Rattle.sg_bonds.proofs.ForcedMinimum.{unit_product}
+use Rattle.sg_bonds.proofs.OneEntry.{push_each}
 use Rattle.sg_bonds.proofs.OneCost.{with-one}
-use Rattle.sg_model.proofs.EnergyBounds.{energy_size}
 use Rattle.sg_ranges.specs.Turn.{AreTurns, IsDouble, IsTurn, IsTurningPoint}
 
 abbrev no_bond : Bond
@@ -26,16 +26,9 @@ no_bond = record { u = 0; v = 0; j = pos 0 }
 pub parity : (inst : Ising) (s t : List ℤ) → IsInstance inst → IsAssignment inst s → IsAssignment inst t
     → (d : ℤ) × (energy inst s ≡ energy inst t +ℤ (pos 2 *ℤ d))
 parity inst s t good a b = (
-  pos (broken s) -ℤ pos (broken t),
-  apart (energy inst s) (energy inst t) (broken s) (broken t) (weight inst)
-      (energy_from_broken inst s good a) (energy_from_broken inst t good b),
+  pos (sum_by (broken_weight s) inst.bonds) -ℤ pos (sum_by (broken_weight t) inst.bonds),
+  omega (arith, ints, energy_from_broken inst s good a, energy_from_broken inst t good b),
 )
-  where
-    broken : List ℤ → ℕ
-    broken s = sum_by (broken_weight s) inst.bonds
-
-    apart : (x y : ℤ) (a b w : ℕ) → x ≡ pos (2 * a) -ℤ pos w → y ≡ pos (2 * b) -ℤ pos w → x ≡ y +ℤ (pos 2 *ℤ (pos a -ℤ pos b))
-    apart x y a b w e f = omega (arith, ints)
 
 module _ (inst : Ising) (good : IsInstance inst) (k : ℕ) (inside : k < bond_count inst) where
   abbrev coupling : ℤ
@@ -63,15 +56,12 @@ module _ (inst : Ising) (good : IsInstance inst) (k : ℕ) (inside : k < bond_co
       h.reached.0,
       assigned z h.reached.0 h.reached.1,
       product_moved z h.reached.0 ∙ h.reached.2,
-      moved z p h.reached.0 h.reached.2 ∙ ap (λ x. (x +ℤ (coupling *ℤ p)) -ℤ (z *ℤ p)) h.reached.3,
+      omega (arith, ints, moved z p h.reached.0 h.reached.2, h.reached.3),
     );
     least = λ t u same.
-        let has : product t (bond_at inst k) ≡ p = sym (product_moved z t) ∙ same in
-        kept e (energy inst t) (coupling *ℤ p) (z *ℤ p) (energy (with_coupling inst k z) t) (h.least t (assigned_back z t u) has) (moved z p t has);
+        let has = sym (product_moved z t) ∙ same in
+        omega (arith, ints, h.least t (assigned_back z t u) has, moved z p t has);
   }
-    where
-      kept : (e f x y g : ℤ) → e ≤ℤ f → g ≡ (f +ℤ x) -ℤ y → ((e +ℤ x) -ℤ y) ≤ℤ g
-      kept e f x y g l h = omega (arith, ints)
 
   -- and back
   least_back : (z p e : ℤ) → IsLeastWith (with_coupling inst k z) k p e → IsLeastWith inst k p ((e -ℤ (coupling *ℤ p)) +ℤ (z *ℤ p))
@@ -80,43 +70,30 @@ module _ (inst : Ising) (good : IsInstance inst) (k : ℕ) (inside : k < bond_co
       h.reached.0,
       assigned_back z h.reached.0 h.reached.1,
       has,
-      back e (energy inst h.reached.0) (coupling *ℤ p) (z *ℤ p) (energy (with_coupling inst k z) h.reached.0) h.reached.3 (moved z p h.reached.0 has),
+      omega (arith, ints, h.reached.3, moved z p h.reached.0 has),
     );
-    least = λ t u same.
-        kept e (energy inst t) (coupling *ℤ p) (z *ℤ p) (energy (with_coupling inst k z) t) (h.least t (assigned z t u) (product_moved z t ∙ same))
-        (moved z p t same);
+    least = λ t u same. omega (arith, ints, h.least t (assigned z t u) (product_moved z t ∙ same), moved z p t same);
   }
     where
       has : product h.reached.0 (bond_at inst k) ≡ p
       has = sym (product_moved z h.reached.0) ∙ h.reached.2
-
-      back : (e f x y g : ℤ) → g ≡ e → g ≡ (f +ℤ x) -ℤ y → f ≡ (e -ℤ x) +ℤ y
-      back e f x y g l h = omega (arith, ints)
-
-      kept : (e f x y g : ℤ) → e ≤ℤ g → g ≡ (f +ℤ x) -ℤ y → ((e -ℤ x) +ℤ y) ≤ℤ f
-      kept e f x y g l h = omega (arith, ints)
 
   -- where twice t is twice the coupling and what the least energies lie apart, they meet at t
   turn_between : (t e f : ℤ) → IsLeastWith inst k (pos 1) e → IsLeastWith inst k (negsuc 0) f → t +ℤ t ≡ (coupling +ℤ coupling) +ℤ (e -ℤ f) → IsTurn inst k t
   turn_between t e f like unlike twice = record {
     level = (e +ℤ (coupling *ℤ pos 1)) -ℤ (t *ℤ pos 1);
     like = least_moved t (pos 1) e like;
-    unlike = subst (IsLeastWith (with_coupling inst k t) k (negsuc 0)) (meet t coupling e f twice) (least_moved t (negsuc 0) f unlike);
+    unlike =
+        let meet : (f +ℤ (coupling *ℤ negsuc 0)) -ℤ (t *ℤ negsuc 0) ≡ (e +ℤ (coupling *ℤ pos 1)) -ℤ (t *ℤ pos 1) = omega (arith, ints, twice) in
+        subst (IsLeastWith (with_coupling inst k t) k (negsuc 0)) meet (least_moved t (negsuc 0) f unlike);
   }
-    where
-      meet : (t j e f : ℤ) → t +ℤ t ≡ (j +ℤ j) +ℤ (e -ℤ f) → (f +ℤ (j *ℤ negsuc 0)) -ℤ (t *ℤ negsuc 0) ≡ (e +ℤ (j *ℤ pos 1)) -ℤ (t *ℤ pos 1)
-      meet t j e f h = omega (arith, ints)
 
   -- only there
   pub one_turn : (t u : ℤ) → IsTurn inst k t → IsTurn inst k u → t ≡ u
   one_turn t u g h =
-      same t u coupling g.level h.level
-      (with-one inst k (pos 1) _ _ (least_back t (pos 1) g.level g.like) (least_back u (pos 1) h.level h.like))
-      (with-one inst k (negsuc 0) _ _ (least_back t (negsuc 0) g.level g.unlike) (least_back u (negsuc 0) h.level h.unlike))
-    where
-      same : (t u j a b : ℤ) → (a -ℤ (j *ℤ pos 1)) +ℤ (t *ℤ pos 1) ≡ (b -ℤ (j *ℤ pos 1)) +ℤ (u *ℤ pos 1) →
-          (a -ℤ (j *ℤ negsuc 0)) +ℤ (t *ℤ negsuc 0) ≡ (b -ℤ (j *ℤ negsuc 0)) +ℤ (u *ℤ negsuc 0) → t ≡ u
-      same t u j a b x y = omega (arith, ints)
+      let like = with-one inst k (pos 1) _ _ (least_back t (pos 1) g.level g.like) (least_back u (pos 1) h.level h.like) in
+      let unlike = with-one inst k (negsuc 0) _ _ (least_back t (negsuc 0) g.level g.unlike) (least_back u (negsuc 0) h.level h.unlike) in
+      omega (arith, ints, like, unlike)
 
   unit : (s : List ℤ) → IsAssignment inst s → IsUpOrDown (product s (bond_at inst k))
   unit s h = unit_product inst good k inside s h
@@ -147,28 +124,17 @@ module _ (inst : Ising) (good : IsInstance inst) (k : ℕ) (inside : k < bond_co
           (((((h.level -ℤ (coupling *ℤ p)) +ℤ (t *ℤ p))) +ℤ (coupling *ℤ p)) -ℤ (z *ℤ p))
       order z p q s g e lp lq =
           let other = at z p lp in
-          through _ _ _ _ ((at z q lq).least s g.assignment (product_moved z s ∙ e)) (g.least other.reached.0 other.reached.1) other.reached.3
-        where
-          through : (a b c d : ℤ) → a ≤ℤ b → b ≤ℤ c → c ≡ d → a ≤ℤ d
-          through a b c d l m e = omega (arith, ints)
+          omega (arith, ints, (at z q lq).least s g.assignment (product_moved z s ∙ e), g.least other.reached.0 other.reached.1, other.reached.3)
 
       above_it : (z : ℤ) → t <ℤ z → (s : List ℤ) → IsGroundState (with_coupling inst k z) s → IsUpOrDown (product s (bond_at inst k))
           → product s (bond_at inst k) ≡ pos 1
       above_it z l s g (inl e) = e
-      above_it z l s g (inr e) = absurd (less t z h.level coupling l (order z (pos 1) (negsuc 0) s g e like unlike))
-        where
-          less : (t z x j : ℤ) → t <ℤ z → ((((x -ℤ (j *ℤ negsuc 0)) +ℤ (t *ℤ negsuc 0)) +ℤ (j *ℤ negsuc 0)) -ℤ (z *ℤ negsuc 0)) ≤ℤ
-              ((((x -ℤ (j *ℤ pos 1)) +ℤ (t *ℤ pos 1)) +ℤ (j *ℤ pos 1)) -ℤ (z *ℤ pos 1)) → ⊥
-          less t z x j l o = omega (arith, ints)
+      above_it z l s g (inr e) = absurd (omega (arith, ints, l, order z (pos 1) (negsuc 0) s g e like unlike))
 
       below_it : (z : ℤ) → z <ℤ t → (s : List ℤ) → IsGroundState (with_coupling inst k z) s → IsUpOrDown (product s (bond_at inst k))
           → product s (bond_at inst k) ≡ negsuc 0
       below_it z l s g (inr e) = e
-      below_it z l s g (inl e) = absurd (less t z h.level coupling l (order z (negsuc 0) (pos 1) s g e unlike like))
-        where
-          less : (t z x j : ℤ) → z <ℤ t → ((((x -ℤ (j *ℤ pos 1)) +ℤ (t *ℤ pos 1)) +ℤ (j *ℤ pos 1)) -ℤ (z *ℤ pos 1)) ≤ℤ
-              ((((x -ℤ (j *ℤ negsuc 0)) +ℤ (t *ℤ negsuc 0)) +ℤ (j *ℤ negsuc 0)) -ℤ (z *ℤ negsuc 0)) → ⊥
-          less t z x j l o = omega (arith, ints)
+      below_it z l s g (inl e) = absurd (omega (arith, ints, l, order z (negsuc 0) (pos 1) s g e unlike like))
 
       -- at t no assignment lies below the level
       bottom : (u : List ℤ) → IsAssignment (with_coupling inst k t) u → IsUpOrDown (product u (bond_at inst k)) → h.level ≤ℤ energy (with_coupling inst k t) u
@@ -195,7 +161,8 @@ module _ (inst : Ising) (good : IsInstance inst) (k : ℕ) (inside : k < bond_co
   -- from a ground state and the cost of the bond
   pub turn_from_cost : (t c : ℤ) (s : List ℤ) → IsGroundState inst s → IsCost inst k c
       → t +ℤ t ≡ (coupling +ℤ coupling) -ℤ (product s (bond_at inst k) *ℤ c) → IsTurn inst k t
-  turn_from_cost t c s g cost twice = by_product (unit s g.assignment)
+  turn_from_cost t c s g cost twice =
+      turn_between t cost.like cost.unlike cost.least_like cost.least_unlike (by_product (unit s g.assignment))
     where
       like_above : energy inst s ≤ℤ cost.like
       like_above = subst (λ x. energy inst s ≤ℤ x) cost.least_like.reached.3 (g.least cost.least_like.reached.0 cost.least_like.reached.1)
@@ -203,81 +170,27 @@ module _ (inst : Ising) (good : IsInstance inst) (k : ℕ) (inside : k < bond_co
       unlike_above : energy inst s ≤ℤ cost.unlike
       unlike_above = subst (λ x. energy inst s ≤ℤ x) cost.least_unlike.reached.3 (g.least cost.least_unlike.reached.0 cost.least_unlike.reached.1)
 
-      when_like : (t j p c e f x : ℤ) → t +ℤ t ≡ (j +ℤ j) -ℤ (p *ℤ c) → p ≡ pos 1 → c ≡ pos (unsigned_abs (f -ℤ e)) → e ≤ℤ x → x ≤ℤ f
-          → t +ℤ t ≡ (j +ℤ j) +ℤ (e -ℤ f)
-      when_like t j p c e f x h a b l m = h ∙ ap (λ q. (j +ℤ j) -ℤ (q *ℤ c)) a ∙ rest j c e f x b l m
-        where
-          rest : (j c e f x : ℤ) → c ≡ pos (unsigned_abs (f -ℤ e)) → e ≤ℤ x → x ≤ℤ f → (j +ℤ j) -ℤ (pos 1 *ℤ c) ≡ (j +ℤ j) +ℤ (e -ℤ f)
-          rest j c e f x b l m = omega (arith, ints)
-
-      when_unlike : (t j p c e f x : ℤ) → t +ℤ t ≡ (j +ℤ j) -ℤ (p *ℤ c) → p ≡ negsuc 0 → c ≡ pos (unsigned_abs (f -ℤ e)) → f ≤ℤ x → x ≤ℤ e
-          → t +ℤ t ≡ (j +ℤ j) +ℤ (e -ℤ f)
-      when_unlike t j p c e f x h a b l m = h ∙ ap (λ q. (j +ℤ j) -ℤ (q *ℤ c)) a ∙ rest j c e f x b l m
-        where
-          rest : (j c e f x : ℤ) → c ≡ pos (unsigned_abs (f -ℤ e)) → f ≤ℤ x → x ≤ℤ e → (j +ℤ j) -ℤ (negsuc 0 *ℤ c) ≡ (j +ℤ j) +ℤ (e -ℤ f)
-          rest j c e f x b l m = omega (arith, ints)
-
-      by_product : IsUpOrDown (product s (bond_at inst k)) → IsTurn inst k t
-      by_product (inl e) = turn_between t cost.like cost.unlike cost.least_like cost.least_unlike
-          (when_like t coupling (product s (bond_at inst k)) c cost.like cost.unlike (energy inst s) twice e cost.apart
-          (cost.least_like.least s g.assignment e) unlike_above)
-      by_product (inr e) = turn_between t cost.like cost.unlike cost.least_like cost.least_unlike
-          (when_unlike t coupling (product s (bond_at inst k)) c cost.like cost.unlike (energy inst s) twice e cost.apart
-          (cost.least_unlike.least s g.assignment e) like_above)
+      by_product : IsUpOrDown (product s (bond_at inst k)) → t +ℤ t ≡ (coupling +ℤ coupling) +ℤ (cost.like -ℤ cost.unlike)
+      by_product (inl e) =
+          let own = ap (λ q. q *ℤ c) e in omega (arith, ints, twice, own, cost.apart, cost.least_like.least s g.assignment e, unlike_above)
+      by_product (inr e) =
+          let own = ap (λ q. q *ℤ c) e in omega (arith, ints, twice, own, cost.apart, cost.least_unlike.least s g.assignment e, like_above)
 
   -- a cost is an even number
   pub cost_halves : (c : ℤ) (most : ℕ) → weight inst ≤ most → IsCost inst k c → IsDouble most c
-  cost_halves c most small h = (
-    unsigned_abs (pos (broken unlike) -ℤ pos (broken like)),
-    bounded (broken unlike) (broken like) (weight inst) most (most_of unlike h.least_unlike.reached.1) (most_of like h.least_like.reached.1) small,
-    twice c h.unlike h.like (broken unlike) (broken like) (weight inst) h.apart
-        (sym h.least_unlike.reached.3 ∙ energy_from_broken inst unlike good h.least_unlike.reached.1)
-        (sym h.least_like.reached.3 ∙ energy_from_broken inst like good h.least_like.reached.1),
-  )
-    where
-      broken : List ℤ → ℕ
-      broken s = sum_by (broken_weight s) inst.bonds
-
-      like : List ℤ
-      like = h.least_like.reached.0
-
-      unlike : List ℤ
-      unlike = h.least_unlike.reached.0
-
-      most_of : (s : List ℤ) → IsAssignment inst s → sum_by (broken_weight s) inst.bonds ≤ weight inst
-      most_of s a = from_size (energy inst s) (sum_by (broken_weight s) inst.bonds) (weight inst) (energy_from_broken inst s good a)
-          (energy_size inst s good a)
-        where
-          from_size : (e : ℤ) (b w : ℕ) → e ≡ pos (2 * b) -ℤ pos w → unsigned_abs e ≤ w → b ≤ w
-          from_size e b w p q = omega (arith, ints)
-
-      bounded : (a b w m : ℕ) → a ≤ w → b ≤ w → w ≤ m → unsigned_abs (pos a -ℤ pos b) ≤ m
-      bounded a b w m p q r = omega (arith, ints)
-
-      twice : (c e f : ℤ) (a b w : ℕ) → c ≡ pos (unsigned_abs (e -ℤ f)) → e ≡ pos (2 * a) -ℤ pos w → f ≡ pos (2 * b) -ℤ pos w
-          → c ≡ pos (2 * unsigned_abs (pos a -ℤ pos b))
-      twice c e f a b w p q r = omega (arith, ints)
+  cost_halves c most small h =
+      let (m, e) = even_cost inst good k c h in
+      (m, omega (arith, ints, e, most_cost inst good k c h, small), omega (arith, ints, e))
 
 -- one more turning coupling
 pub turns_more : (inst : Ising) (turns : List ℤ) (t : ℤ) (n : ℕ) → length turns ≡ n → ((k : ℕ) → k < n → IsTurn inst k (get_or turns k (pos 0)))
     → IsTurn inst n t → (k : ℕ) → k < n + 1 → IsTurn inst k (get_or (turns ++ t ∷ []) k (pos 0))
-turns_more inst turns t n long before here k l = elim (cases_lt k n) [
-  | inl b ↦ subst (IsTurn inst k) (sym (get_or_append_left turns (t ∷ []) (pos 0) k (omega (arith, long)))) (before k b)
-  | inr past ↦
-      let same : k ≡ n = omega arith in
-      subst (IsTurn inst k) (sym (get_or_push turns t (pos 0) k (long ∙ sym same))) (subst (λ i. IsTurn inst i t) (sym same) here)
-]
+turns_more inst turns t n long before here = push_each (IsTurn inst) turns t (pos 0) n long before here
 
 -- a coupling moved by half a cost
 pub doubled : (r j p h c : ℤ) → IsUpOrDown p → r ≡ j -ℤ (p *ℤ h) → h +ℤ h ≡ c → r +ℤ r ≡ (j +ℤ j) -ℤ (p *ℤ c)
-doubled r j p h c (inl a) e f = rw a (when_like r j p h c a e f)
-  where
-    when_like : (r j p h c : ℤ) → p ≡ pos 1 → r ≡ j -ℤ (p *ℤ h) → h +ℤ h ≡ c → r +ℤ r ≡ (j +ℤ j) -ℤ (pos 1 *ℤ c)
-    when_like r j p h c a e f = let g : r ≡ j -ℤ (pos 1 *ℤ h) = e ∙ ap (λ q. j -ℤ (q *ℤ h)) a in omega (arith, ints, g, f)
-doubled r j p h c (inr a) e f = rw a (when_unlike r j p h c a e f)
-  where
-    when_unlike : (r j p h c : ℤ) → p ≡ negsuc 0 → r ≡ j -ℤ (p *ℤ h) → h +ℤ h ≡ c → r +ℤ r ≡ (j +ℤ j) -ℤ (negsuc 0 *ℤ c)
-    when_unlike r j p h c a e f = let g : r ≡ j -ℤ (negsuc 0 *ℤ h) = e ∙ ap (λ q. j -ℤ (q *ℤ h)) a in omega (arith, ints, g, f)
+doubled r j p h c (inl a) e f = let v = ap (λ q. q *ℤ h) a in let w = ap (λ q. q *ℤ c) a in omega (arith, ints, e, f, v, w)
+doubled r j p h c (inr a) e f = let v = ap (λ q. q *ℤ h) a in let w = ap (λ q. q *ℤ c) a in omega (arith, ints, e, f, v, w)
 
 -- the same in numbers of 64 bits
 pub turn_found : (r j p h c : ℤ) (most : ℕ) → 2 * most < 2 ^ 63 → IsUpOrDown p → unsigned_abs j ≤ most → unsigned_abs h ≤ most
