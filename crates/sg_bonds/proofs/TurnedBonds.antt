@@ -1,11 +1,9 @@
 -- Joins that assignments break, and the bonds that two assignments break differently.
 use Rattle.std.proofs.Common.{inl, inr, ◌≡◌, ◌≤◌, ℕ, ◌<◌, ℤ, pos, neg_ℤ, ◌+ℤ◌, ◌-ℤ◌, Bool, true, false, eqb, List, length, map, sym, ◌∙◌, ap, ap₂, subst, arith}
 use Rattle.std.specs.Prelude.{unsigned_abs}
-use Rattle.std.specs.List.{range_with_len}
 use Rattle.std.proofs.lemmas.Bool.{false≢true}
 use Rattle.std.proofs.lemmas.Int.{ints}
 use Rattle.std.proofs.lemmas.List.{get_or-map, length-map}
-use Rattle.std.proofs.lemmas.List.FromFn.{get_or-range_with_len, length-range_with_len}
 use Rattle.sg_limits.specs.Limits.{forced_limit}
 use Rattle.sg_sums.specs.Parity.{parity_by, xor}
 use Rattle.sg_sums.specs.Sets.{chosen_below, is_marked}
@@ -23,13 +21,9 @@ use Rattle.sg_graph.specs.Join.{IsJoin}
 use Rattle.sg_graph.proofs.OnceLists.{rising_light}
 use Rattle.sg_dual.specs.Dual.{dual_web, frustrated_faces}
 use Rattle.sg_dual.proofs.DualWebs.{dual_weight}
-use Rattle.sg_planar.specs.BrokenLists.{BreaksExactly}
 use Rattle.sg_planar.specs.Fit.{Embedding, IsPlanar}
-use Rattle.sg_planar.specs.Following.{FollowsBonds, is_unlike, value_of}
-use Rattle.sg_planar.proofs.FollowedBonds.{values_assigned, values_break}
-use Rattle.sg_planar.proofs.FittingBonds.{fitting_follows}
-use Rattle.sg_ground.proofs.BrokenJoins.{energy_of_join}
-use Rattle.sg_ground.proofs.JoinFits.{join_below, join_fits}
+use Rattle.sg_ground.proofs.BrokenJoins.{energy_of_join, some_breaking}
+use Rattle.sg_ground.proofs.JoinFits.{join_below}
 use Rattle.sg_bonds.specs.Cost.{IsLeastWith}
 use Rattle.sg_bonds.specs.JoinsWith.{IsLeastJoinWith, breaks_with}
 use Rattle.sg_bonds.specs.Turned.{HasBroken}
@@ -46,25 +40,10 @@ module _ (p : Embedding) (planar : IsPlanar p) (edges : List ℕ) (join : IsJoin
       omega (arith, size, rising_light (dual_web p.instance p.faces) edges join.below join.rising, dual_weight p.instance p.faces, planar.sum)
 
   module _ (connected : IsConnected p.instance) (e : ℤ) (is : e ≡ (w +ℤ w) -ℤ pos (weight p.instance)) where
-    abbrev joined_down : (ℕ → Bool) → List Bool
-    joined_down t = map t (range_with_len 0 p.instance.n)
-
-    marked : (t : ℕ → Bool) (x : ℕ) → x < p.instance.n → is_marked (joined_down t) x ≡ t x
-    marked t x l =
-        get_or-map t (range_with_len 0 p.instance.n) x 0 false (omega (arith, length-range_with_len 0 p.instance.n))
-        ∙ ap t (get_or-range_with_len 0 p.instance.n x 0 l ∙ omega arith)
-
     -- on the plane some assignment breaks just the join
     pub join_broken : HasBroken p.instance e edges
     join_broken =
-        let found : (down : ℕ → Bool) × FollowsBonds p.instance (is_unlike p.instance edges) down =
-        fitting_follows p.instance planar.instance p.faces planar.faces connected planar.genus_zero edges (join_fits p.instance p.faces edges join) in
-        let down : List Bool = joined_down found.0 in
-        let lengths : length down ≡ p.instance.n = length-map (range_with_len 0 p.instance.n) found.0 ∙ length-range_with_len 0 p.instance.n in
-        let s : List ℤ = map value_of down in
-        let assigned : IsAssignment p.instance s = values_assigned p.instance down lengths in
-        let breaks : BreaksExactly p.instance s edges =
-        (values_break p.instance down lengths edges planar.instance found.0 found.1 (λ x l. marked found.0 x l)).1 in
+        let (s, assigned, breaks) = some_breaking p planar connected edges join in
         record {
           state = s;
           assignment = assigned;

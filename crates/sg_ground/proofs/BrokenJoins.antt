@@ -1,5 +1,5 @@
 -- The broken bonds of an assignment are a join of the frustrated faces in the dual.
-use Rattle.std.proofs.Common.{ap₂, ◌≡◌, ℕ, ℤ, pos, ◌-ℤ◌, ◌≤ℤ◌, ◌*◌, ◌<◌, ◌≤◌, Bool, false, cond, ◌&&◌, eqb, List, length}
+use Rattle.std.proofs.Common.{ap₂, ◌≡◌, ℕ, ℤ, pos, ◌-ℤ◌, ◌≤ℤ◌, ◌*◌, ◌<◌, ◌≤◌, Bool, false, cond, ◌&&◌, eqb, List}
 use Rattle.std.proofs.Common.{map, sym, ◌∙◌, ap, subst, arith, get_or, sum_by, All}
 use Rattle.std.specs.List.{range_with_len}
 use Rattle.std.proofs.lemmas.Int.{ints}
@@ -28,7 +28,7 @@ use Rattle.sg_dual.proofs.DualWebs.{dual_edge_at, dual_edge_count}
 use Rattle.sg_model.specs.Connected.{IsConnected}
 use Rattle.sg_planar.specs.BrokenLists.{BreaksExactly}
 use Rattle.sg_planar.specs.Fit.{Embedding, IsPlanar}
-use Rattle.sg_planar.specs.Following.{FollowsBonds, is_unlike, value_of}
+use Rattle.sg_planar.specs.Following.{value_of}
 use Rattle.sg_planar.proofs.FollowedBonds.{values_assigned, values_break}
 use Rattle.sg_planar.proofs.FittingBonds.{fitting_follows, sides_parity, xor-and}
 use Rattle.sg_ground.proofs.FrustratedCuts.{far_face, meet_evenly, near_face}
@@ -100,17 +100,14 @@ module _ (inst : Ising) (faces : Labelling) (good : IsInstance inst) (labels : I
   ground_by_join s edges assigned breaks least = record {
     assignment = assigned;
     least = λ t other.
-        let light : weight_of (dual_web inst faces) edges ≤ weight_of (dual_web inst faces) (broken_bonds t other) =
-        least.least (broken_bonds t other) (IsJoin-broken t other) in
-        let own : energy inst s ≡ pos (2 * weight_of (dual_web inst faces) edges) -ℤ pos (weight inst) = energy_of_join s edges assigned breaks least.join in
-        let others : energy inst t ≡ pos (2 * weight_of (dual_web inst faces) (broken_bonds t other)) -ℤ pos (weight inst) =
-        energy_of_join t (broken_bonds t other) other (BreaksExactly-broken t other) (IsJoin-broken t other) in
+        let light = least.least (broken_bonds t other) (IsJoin-broken t other) in
+        let own = energy_of_join s edges assigned breaks least.join in
+        let others = energy_of_join t (broken_bonds t other) other (BreaksExactly-broken t other) (IsJoin-broken t other) in
         omega (arith, ints, light, own, others);
   }
 
 -- in the plane each join is just what some assignment breaks
-module _ (p : Embedding) (planar : IsPlanar p) (connected : IsConnected p.instance) (edges : List ℕ)
-    (least : IsLeastJoin (dual_web p.instance p.faces) (frustrated_faces p.instance p.faces) edges) where
+module _ (p : Embedding) (planar : IsPlanar p) (connected : IsConnected p.instance) (edges : List ℕ) where
   abbrev joined_down : (ℕ → Bool) → List Bool
   joined_down t = map t (range_with_len 0 p.instance.n)
 
@@ -119,21 +116,22 @@ module _ (p : Embedding) (planar : IsPlanar p) (connected : IsConnected p.instan
       get_or-map t (range_with_len 0 p.instance.n) x 0 false (omega (arith, length-range_with_len 0 p.instance.n))
       ∙ ap t (get_or-range_with_len 0 p.instance.n x 0 l ∙ omega arith)
 
+  pub some_breaking : IsJoin (dual_web p.instance p.faces) (frustrated_faces p.instance p.faces) edges
+      → (s : List ℤ) × IsAssignment p.instance s × BreaksExactly p.instance s edges
+  some_breaking join =
+      let (t, follows) = fitting_follows p.instance planar.instance p.faces planar.faces connected planar.genus_zero edges
+      (join_fits p.instance p.faces edges join) in
+      let lengths = length-map (range_with_len 0 p.instance.n) t ∙ length-range_with_len 0 p.instance.n in (
+        map value_of (joined_down t),
+        values_assigned p.instance (joined_down t) lengths,
+        (values_break p.instance (joined_down t) lengths edges planar.instance t follows (λ x l. marked t x l)).1,
+      )
+
   -- the least energy is twice the weight of a least join, less that of all bonds
-  pub least_energy_by_join : IsLeastEnergy p.instance (pos (2 * weight_of (dual_web p.instance p.faces) edges) -ℤ pos (weight p.instance))
-  least_energy_by_join =
-      let found : (down : ℕ → Bool) × FollowsBonds p.instance (is_unlike p.instance edges) down =
-      fitting_follows p.instance planar.instance p.faces planar.faces connected planar.genus_zero edges (join_fits p.instance p.faces edges least.join) in
-      let down : List Bool = joined_down found.0 in
-      let lengths : length down ≡ p.instance.n = length-map (range_with_len 0 p.instance.n) found.0 ∙ length-range_with_len 0 p.instance.n in
-      let s : List ℤ = map value_of down in
-      let assigned : IsAssignment p.instance s = values_assigned p.instance down lengths in
-      let breaks : BreaksExactly p.instance s edges =
-      (values_break p.instance down lengths edges planar.instance found.0 found.1 (λ x l. marked found.0 x l)).1 in
-      let energy_is : energy p.instance s ≡ pos (2 * weight_of (dual_web p.instance p.faces) edges) -ℤ pos (weight p.instance) =
-      energy_of_join p.instance p.faces planar.instance planar.faces s edges assigned breaks least.join in
-      let ground : IsGroundState p.instance s = ground_by_join p.instance p.faces planar.instance planar.faces s edges assigned breaks least in
-      record {
-        reached = (s, assigned, energy_is);
-        least = λ t other. subst (λ e. e ≤ℤ energy p.instance t) energy_is (ground.least t other);
-      }
+  pub least_energy_by_join : IsLeastJoin (dual_web p.instance p.faces) (frustrated_faces p.instance p.faces) edges
+      → IsLeastEnergy p.instance (pos (2 * weight_of (dual_web p.instance p.faces) edges) -ℤ pos (weight p.instance))
+  least_energy_by_join least =
+      let (s, assigned, breaks) = some_breaking least.join in
+      let energy_is = energy_of_join p.instance p.faces planar.instance planar.faces s edges assigned breaks least.join in
+      let ground = ground_by_join p.instance p.faces planar.instance planar.faces s edges assigned breaks least in
+      record { reached = (s, assigned, energy_is); least = λ t other. subst (λ e. e ≤ℤ energy p.instance t) energy_is (ground.least t other) }

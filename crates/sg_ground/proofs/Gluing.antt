@@ -62,7 +62,7 @@ module _ (inst : Ising) (good : IsInstance inst) (parts : List Part) (are : AreP
     state = record {
       ground_state = record {
         assignment = glued.assignment;
-        least = λ t other. less _ _ _ _ _ (energy_over s glued.assignment) (energy_over t other) (glued.least t other);
+        least = λ t other. omega (arith, ints, energy_over s glued.assignment, energy_over t other, glued.least t other);
       };
       stated = energy_over s glued.assignment ∙ sym glued.stated;
       size = omega (arith, glued.size, sizes_all);
@@ -76,9 +76,6 @@ module _ (inst : Ising) (good : IsInstance inst) (parts : List Part) (are : AreP
     short = omega (arith, glued.short, dealt_to_parts inst parts are (λ _. 1), sum_below_ones (bond_count inst));
     tight = λ so. glued.tight so ∙ ap (λ w. e +ℤ pos w) sizes_all;
   }
-    where
-      less : (f g : ℤ) (a b w : ℕ) → f ≡ pos a -ℤ pos w → g ≡ pos b -ℤ pos w → a ≤ b → f ≤ℤ g
-      less f g a b w h k l = omega (arith, ints)
 
   module _ (i : ℕ) (p : Part) (l : i < length parts) (same : p ≡ get_or parts i p) where
     -- part i is the component of some spin, and a share of the whole
@@ -160,7 +157,7 @@ module _ (inst : Ising) (good : IsInstance inst) (parts : List Part) (are : AreP
         | inr old ↦ old ∙ glued.leasts_up x l least
         | inl here ↦
             let some : 0 < length p.spins = omega (arith, here.1) in
-            let below : x ≤ numbered p.spins 0 =
+            let below =
             least (numbered p.spins 0) (together inst part_here.0 p part_here.1 x (numbered p.spins 0)
             (ap (holds p.spins) (sym here.2) ∙ holds_at p.spins here.0 0 here.1) (holds_at p.spins 0 0 some)) in
             elim (cases_eq here.0 0) [
@@ -183,15 +180,12 @@ module _ (inst : Ising) (good : IsInstance inst) (parts : List Part) (are : AreP
               let q : Part = get_or (take i parts) j d in
               let is : (least : ℕ) × IsPart inst least q = All-take (λ (p : Part). (least : ℕ) × IsPart inst least p) i parts each j d m in
               let low : k < bond_count inst = ((is.1.bonds k).0 held).0 in
-              let first : spin u (bond_at inst k).u ≡ spin s (bond_at inst k).u =
-              kept (bond_at inst k).u (ends k low).first_end j d m (first_inside inst is.0 q is.1 k held) in
-              let second : spin u (bond_at inst k).v ≡ spin s (bond_at inst k).v =
-              kept (bond_at inst k).v (ends k low).second_end j d m (second_inside inst is.0 q is.1 (λ k l. (ends k l).second_end) k held) in
+              let first = kept (bond_at inst k).u (ends k low).first_end (first_inside inst is.0 q is.1 k held) in
+              let second = kept (bond_at inst k).v (ends k low).second_end (second_inside inst is.0 q is.1 (λ k l. (ends k l).second_end) k held) in
               rw (first, second) refl
             where
-              kept : (x : ℕ) → x < inst.n → (j : ℕ) (d : Part) → j < length (take i parts) → holds (get_or (take i parts) j d).spins x ≡ true →
-                  spin u x ≡ spin s x
-              kept x low j d m held = writes.others x (apart x low j d m held)
+              kept : (x : ℕ) → x < inst.n → holds (get_or (take i parts) j d).spins x ≡ true → spin u x ≡ spin s x
+              kept x low inside = writes.others x (apart x low j d m inside)
 
       -- with this part they grow by what they cost there
       costs_more : over_bonds (cost_at inst u) (take (i + 1) parts) ≡ over_bonds (cost_at inst s) (take i parts) + sum_by (cost_at inst u) p.bonds
@@ -201,18 +195,16 @@ module _ (inst : Ising) (good : IsInstance inst) (parts : List Part) (are : AreP
       no_less : (v : List ℤ) → IsAssignment inst v → sum_by (cost_at inst u) p.bonds ≤ sum_by (cost_at inst v) p.bonds
       no_less v other =
           let inside : IsAssignment p.planar.instance (values_in p.spins v) = share_assignment inst p.spins p.bonds p.planar.instance share v other in
-          less _ _ _ _ _ (energy_here u t assigned writes.values) (energy_here v (values_in p.spins v) inside (in_place p.spins v))
-          (found.state.ground_state.least (values_in p.spins v) inside)
-        where
-          less : (f g : ℤ) (c d w : ℕ) → f ≡ pos c -ℤ pos w → g ≡ pos d -ℤ pos w → f ≤ℤ g → c ≤ d
-          less f g c d w h k l = omega (arith, ints)
+          let own = energy_here u t assigned writes.values in
+          let others = energy_here v (values_in p.spins v) inside (in_place p.spins v) in
+          omega (arith, ints, own, others, found.state.ground_state.least (values_in p.spins v) inside)
 
       -- one part more
       pub part_glued : IsGlued inst with_loops (take (i + 1) parts) u (e +ℤ f) (loops ++ map (loop_in_whole p.bonds) more)
       part_glued = record {
         assignment = all_assigned;
-        stated = added e f _ _ _ _ _ _ glued.stated (sym found.state.stated ∙ energy_here u t assigned writes.values) costs_more sizes_more;
-        size = bounded e f _ _ _ glued.size found.state.size sizes_more;
+        stated = omega (arith, ints, glued.stated, found.state.stated, energy_here u t assigned writes.values, costs_more, sizes_more);
+        size = omega (arith, ints, glued.size, found.state.size, sizes_more);
         least = λ v other.
             omega (arith, costs_more, with_this (λ (q : Part). sum_by (cost_at inst v) q.bonds), glued.least v other, no_less v other);
         leasts_up = leasts_up;
@@ -241,20 +233,11 @@ module _ (inst : Ising) (good : IsInstance inst) (parts : List Part) (are : AreP
               with_this (λ (q : Part). sum_by (λ _. 1) q.bonds),
               ones p.bonds,
             );
-        tight = λ so. proved e f _ _ _ _ _ _ (glued.tight so) (found.tight so)
-            (sum_by-append loop_weight loops (map (loop_in_whole p.bonds) more)) (total_over p.bonds more) _ sizes_more;
+        tight = λ so.
+            let all = sum_by-append loop_weight loops (map (loop_in_whole p.bonds) more) in
+            omega (arith, ints, glued.tight so, found.tight so, all, total_over p.bonds more, sizes_more);
       }
         where
-          added : (e f : ℤ) (a b c d v w : ℕ) → e ≡ pos a -ℤ pos b → f ≡ pos c -ℤ pos d → v ≡ a + c → w ≡ b + d → e +ℤ f ≡ pos v -ℤ pos w
-          added e f a b c d v w h k l m = omega (arith, ints)
-
-          bounded : (e f : ℤ) (a b w : ℕ) → unsigned_abs e ≤ a → unsigned_abs f ≤ b → w ≡ a + b → unsigned_abs (e +ℤ f) ≤ w
-          bounded e f a b w h k l = omega (arith, ints)
-
-          proved : (e f : ℤ) (a b c d v w : ℕ) → pos a ≡ e +ℤ pos b → pos c ≡ f +ℤ pos d → v ≡ a + w → w ≡ c → (s : ℕ) → s ≡ b + d →
-              pos v ≡ (e +ℤ f) +ℤ pos s
-          proved e f a b c d v w h k l m s n = omega (arith, ints)
-
           ones : (xs : List ℕ) → sum_by (λ _. 1) xs ≡ length xs
           ones [] = refl
           ones (x ∷ xs) = omega (arith, ones xs, sum_by-cons (λ _. 1) x xs)

@@ -1,5 +1,5 @@
 -- The parts of an instance: each is a share of it, no two have a spin in common, and a sum over all bonds is dealt out to them.
-use Rattle.std.proofs.Common.{inl, ◌≡◌, ℕ, ◌+◌, ◌*◌, ◌<◌, Bool, true, false, cond, eqb}
+use Rattle.std.proofs.Common.{inl, ◌≡◌, ℕ, ◌+◌, ◌*◌, ◌<◌, Bool, true, cond, eqb}
 use Rattle.std.proofs.Common.{List, [], ◌∷◌, refl, sym, ◌∙◌, ap, arith, sum_by, length, get_or, All, eq-eqb, pos}
 use Rattle.std.specs.List.{AllZip}
 use Rattle.std.proofs.lemmas.Bool.{eqb-true}
@@ -96,8 +96,7 @@ pub once_each : (b : Part → Bool) (c : ℕ) (parts : List Part) → sum_by (λ
 once_each b c parts once = times parts ∙ ap (λ n. c * n) once ∙ omega arith
   where
     one : (t : Bool) → cond t c 0 ≡ c * cond {A = ℕ} t 1 0
-    one true = omega arith
-    one false = omega arith
+    one t = grind arith
 
     times : (parts : List Part) → sum_by (λ p. cond (b p) c 0) parts ≡ c * sum_by (λ p. cond (b p) 1 0) parts
     times [] = omega arith

@@ -1,5 +1,5 @@
 -- Values written to rising places, one by one.
-use Rattle.std.proofs.Common.{inl, inr, ◌≡◌, ℕ, zero, suc, ◌+◌, ◌<◌, ◌≤◌, ℤ, pos, Bool, true, false, ◌||◌, eqb, List, take}
+use Rattle.std.proofs.Common.{inl, inr, ◌≡◌, ℕ, zero, suc, ◌+◌, ◌<◌, ◌≤◌, ℤ, pos, Bool, false, ◌||◌, eqb, List, take}
 use Rattle.std.proofs.Common.{set, refl, sym, ◌∙◌, ap, subst, arith, length, get_or, All}
 use Rattle.std.specs.List.Sorted.{IsStrictlyIncreasing}
 use Rattle.std.proofs.lemmas.Bool.{cases_eq, eq-eqb, false≢true}
@@ -11,8 +11,7 @@ use Rattle.sg_model.specs.Spins.{spin}
 use Rattle.sg_ground.specs.Placed.{WritesAt, numbered}
 
 both_false : (a b : Bool) → (a || b) ≡ false → (a ≡ false) × (b ≡ false)
-both_false true b h = absurd (false≢true (sym h))
-both_false false b h = (refl, h)
+both_false a b h = (grind arith, grind arith)
 
 -- one value more at its place
 pub written_more : (places : List ℕ) (part old now : List ℤ) (i : ℕ) (y : ℤ) → IsStrictlyIncreasing places → All (λ x. x < length old) places →

@@ -1,8 +1,7 @@
 -- What a share gives to the whole: its spins break the same bonds, and its loops are loops of the whole.
-use Rattle.std.proofs.Common.{inl, inr, ◌≡◌, ◌≢◌, ◌⊎◌, ℕ, ◌+◌, ◌*◌, ◌%◌, ◌<◌, ◌≤◌, ◌||◌, ℤ, pos, ◌*ℤ◌, Bool, true}
+use Rattle.std.proofs.Common.{inl, inr, ◌≡◌, ◌≢◌, ℕ, ◌+◌, ◌*◌, ◌%◌, ◌<◌, ◌≤◌, ◌||◌, ℤ, pos, ◌*ℤ◌, Bool}
 use Rattle.std.proofs.Common.{false, cond, eqb, List, map, refl, sym, ◌∙◌, ap, ap₂, subst, arith, sum_by, count_by, length, get_or, All, eq-eqb}
 use Rattle.std.specs.Prelude.{unsigned_abs}
-use Rattle.std.specs.List.{list_any}
 use Rattle.std.specs.List.Sorted.{IsStrictlyIncreasing}
 use Rattle.std.proofs.lemmas.Bool.{cases_eq, cases_lt, ne_eqb}
 use Rattle.std.proofs.lemmas.List.{get_or-map, length-map}
@@ -66,8 +65,7 @@ rising_numbers xs places up rise low k l =
     let within : k + 1 < length places = omega (arith, l, length-map places (numbered xs)) in
     let here : get_or (map (numbered xs) places) k 0 ≡ numbered xs (get_or places k 0) = get_or-map (numbered xs) places k 0 0 (omega arith) in
     let next : get_or (map (numbered xs) places) (k + 1) 0 ≡ numbered xs (get_or places (k + 1) 0) = get_or-map (numbered xs) places (k + 1) 0 0 within in
-    let less : numbered xs (get_or places k 0) < numbered xs (get_or places (k + 1) 0) =
-    rising_order xs up (get_or places k 0) (get_or places (k + 1) 0) (rise k within) (low (k + 1) 0 within) in
+    let less = rising_order xs up (get_or places k 0) (get_or places (k + 1) 0) (rise k within) (low (k + 1) 0 within) in
     omega arith
 
 -- counts by tests that agree
@@ -173,25 +171,39 @@ module _ (inst : Ising) (spins bonds : List ℕ) (share : Ising) (is : IsShare i
       rising = rising_numbers bonds list is.bonds_rise frustrated.set.rising low;
       below = All-map (λ k. k < bond_count inst) (numbered bonds) list (λ j d m. is.bonds_below (get_or list j d) 0 (low j d m));
     };
-    even = λ x l. even_at x (cases_in spins x);
+    even = λ x l. elim (cases_in spins x) [
+      | inl (a, m, same, held) ↦
+          ap (λ y. degree inst (map (numbered bonds) list) y % 2) (sym same) ∙ ap (λ c. c % 2) (degree_inside list low a m)
+          ∙ frustrated.even a (omega (arith, m, is.spin_count))
+      | inr (out, none) ↦ ap (λ c. c % 2) (degree_outside list low x out)
+    ];
     odd = ap (λ c. c % 2) (same_negative list low) ∙ frustrated.odd;
   }
     where
       low : All (λ i. i < length bonds) list
       low j d m = omega (arith, frustrated.set.below j d m, is.bond_counts)
 
-      even_at : (x : ℕ) → ((a : ℕ) × (a < length spins) × (get_or spins a 0 ≡ x) × (list_any (λ m. eqb m x) spins ≡ true)) ⊎
-          (((a : ℕ) → a < length spins → get_or spins a 0 ≢ x) × (list_any (λ m. eqb m x) spins ≡ false)) →
-          degree inst (map (numbered bonds) list) x % 2 ≡ 0
-      even_at x (inl (a, l, same, held)) =
-          ap (λ y. degree inst (map (numbered bonds) list) y % 2) (sym same) ∙ ap (λ c. c % 2) (degree_inside list low a l)
-          ∙ frustrated.even a (omega (arith, l, is.spin_count))
-      even_at x (inr (out, none)) = ap (λ c. c % 2) (degree_outside list low x out)
-
   -- loops that the share can carry, the whole can: on its own bonds they weigh what they weigh there, and nothing on others
   pub load_over : (loops : List Loop) → All (λ l. IsFrustratedLoop share l.bonds) loops → ((i : ℕ) → i < bond_count share → IsWithin share loops i) →
       (k : ℕ) → load (map (loop_in_whole bonds) loops) k ≤ cond (holds bonds k) (2 * unsigned_abs (bond_at inst k).j) 0
-  load_over loops frustrated within k = by_place (cases_in bonds k)
+  load_over loops frustrated within k = elim (cases_in bonds k) [
+    | inl (i, m, same, held) ↦
+        let here = over ∙ sum_by-same (λ (l : Loop). cond (holds (map (numbered bonds) l.bonds) k) (loop_weight l) 0) (λ l. part l i) loops
+        (All-weaker (λ (l : Loop). IsFrustratedLoop share l.bonds)
+        (λ (l : Loop). cond (holds (map (numbered bonds) l.bonds) k) (loop_weight l) 0 ≡ part l i)
+        (λ l h. ap (λ b. cond b (loop_weight l) 0) (ap (holds (map (numbered bonds) l.bonds)) (sym same) ∙ inside i m l h)) loops frustrated) in
+        let most : load loops i ≤ 2 * unsigned_abs (bond_at share i).j = within i (omega (arith, m, is.bond_counts)) in
+        let size = ap unsigned_abs (is.coupling i m ∙ ap (λ k. (bond_at inst k).j) same) in
+        let value = ap (λ b. cond b (2 * unsigned_abs (bond_at inst k).j) 0) held in
+        omega (arith, here, most, size, value)
+    | inr (out, none) ↦
+        let nothing = over ∙ sum_by-same (λ (l : Loop). cond (holds (map (numbered bonds) l.bonds) k) (loop_weight l) 0) (λ l. 0) loops
+        (All-weaker (λ (l : Loop). IsFrustratedLoop share l.bonds)
+        (λ (l : Loop). cond (holds (map (numbered bonds) l.bonds) k) (loop_weight l) 0 ≡ 0)
+        (λ l h. ap (λ b. cond b (loop_weight l) 0) (outside out l h)) loops frustrated)
+        ∙ sum_by-zero (λ (l : Loop). 0) loops (λ l. refl) in
+        omega (arith, nothing)
+  ]
     where
       part : Loop → ℕ → ℕ
       part l i = cond (holds l.bonds i) (loop_weight l) 0
@@ -216,30 +228,6 @@ module _ (inst : Ising) (spins bonds : List ℕ) (share : Ising) (is : IsShare i
           ∙ list_any-agree_at (λ j. eqb (numbered bonds j) k) (λ j. false) l.bonds 0
           (λ j n. ne_eqb (numbered bonds (get_or l.bonds j 0)) k (out (get_or l.bonds j 0) (low l h j 0 n)))
           ∙ list_any-never l.bonds
-
-      by_place : ((i : ℕ) × (i < length bonds) × (get_or bonds i 0 ≡ k) × (list_any (λ m. eqb m k) bonds ≡ true)) ⊎
-          (((i : ℕ) → i < length bonds → get_or bonds i 0 ≢ k) × (list_any (λ m. eqb m k) bonds ≡ false)) →
-          load (map (loop_in_whole bonds) loops) k ≤ cond (holds bonds k) (2 * unsigned_abs (bond_at inst k).j) 0
-      by_place (inl (i, m, same, held)) =
-          let here : load (map (loop_in_whole bonds) loops) k ≡ load loops i =
-          over ∙ sum_by-same (λ (l : Loop). cond (holds (map (numbered bonds) l.bonds) k) (loop_weight l) 0) (λ l. part l i) loops
-          (All-weaker (λ (l : Loop). IsFrustratedLoop share l.bonds)
-          (λ (l : Loop). cond (holds (map (numbered bonds) l.bonds) k) (loop_weight l) 0 ≡ part l i)
-          (λ l h. ap (λ b. cond b (loop_weight l) 0) (ap (holds (map (numbered bonds) l.bonds)) (sym same) ∙ inside i m l h)) loops frustrated) in
-          let most : load loops i ≤ 2 * unsigned_abs (bond_at share i).j = within i (omega (arith, m, is.bond_counts)) in
-          let size : unsigned_abs (bond_at share i).j ≡ unsigned_abs (bond_at inst k).j =
-          ap unsigned_abs (is.coupling i m ∙ ap (λ k. (bond_at inst k).j) same) in
-          let value : cond (holds bonds k) (2 * unsigned_abs (bond_at inst k).j) 0 ≡ 2 * unsigned_abs (bond_at inst k).j =
-          ap (λ b. cond b (2 * unsigned_abs (bond_at inst k).j) 0) held in
-          omega (arith, here, most, size, value)
-      by_place (inr (out, none)) =
-          let nothing : load (map (loop_in_whole bonds) loops) k ≡ 0 =
-          over ∙ sum_by-same (λ (l : Loop). cond (holds (map (numbered bonds) l.bonds) k) (loop_weight l) 0) (λ l. 0) loops
-          (All-weaker (λ (l : Loop). IsFrustratedLoop share l.bonds)
-          (λ (l : Loop). cond (holds (map (numbered bonds) l.bonds) k) (loop_weight l) 0 ≡ 0)
-          (λ l h. ap (λ b. cond b (loop_weight l) 0) (outside out l h)) loops frustrated)
-          ∙ sum_by-zero (λ (l : Loop). 0) loops (λ l. refl) in
-          omega (arith, nothing)
 
 -- the loops weigh the same together
 pub total_over : (bonds : List ℕ) (loops : List Loop) → packed_weight (map (loop_in_whole bonds) loops) ≡ packed_weight loops
