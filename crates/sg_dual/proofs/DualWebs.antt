@@ -1,13 +1,13 @@
 -- The dual is a web: what its edges are, and what each web keeps.
 use Rattle.std.proofs.Common.{inl, inr, pos, ◌≡◌, ℕ, ◌+◌, ◌*◌, ◌<◌, ◌≤◌, ◌^◌, map, get_or, All, List, [], ◌∷◌, ◌++◌, ap₂, ℤ, sym, ◌∙◌, ap, arith}
-use Rattle.std.specs.Prelude.{unsigned_abs, ◌≤ℤ◌}
+use Rattle.std.specs.Prelude.{unsigned_abs}
 use Rattle.std.specs.List.{range_with_len}
 use Rattle.std.proofs.lemmas.List.FromFn.{length-map-range_with_len, get_or-map-range_with_len, map-range_with_len_more, length-range_with_len, get_or-range_with_len}
 use Rattle.std.proofs.lemmas.List.Elements.{All-map}
 use Rattle.std.proofs.lemmas.Int.{ints}
 use Rattle.std.proofs.lemmas.Bool.{cases_eq}
 use Rattle.sg_model.specs.declared.bond.Bond.{Bond}
-use Rattle.sg_model.specs.Ising.{Ising, bond_at, bond_count}
+use Rattle.sg_model.specs.Ising.{Ising, bond_count}
 use Rattle.sg_model.specs.Energy.{weight}
 use Rattle.sg_model.specs.WellFormed.{IsInstance}
 use Rattle.sg_model.specs.Connected.{IsConnected}
@@ -20,9 +20,6 @@ use Rattle.sg_graph.specs.Walk.{Leads}
 use Rattle.sg_sums.proofs.SumLaws.{sum_by_is_sum_below}
 use Rattle.sg_dual.specs.Dual.{face_of, dual_edge, dual_web}
 use Rattle.sg_sums.proofs.Ranges.{sum_by-map_range}
-
-size_positive : (n : ℕ) → pos 0 ≤ℤ pos n
-size_positive n = omega (arith, ints)
 
 module _ (inst : Ising) (faces : Labelling) where
   -- the dual has an edge for each bond
@@ -76,20 +73,17 @@ module _ (inst : Ising) (faces : Labelling) where
     ]
 
     dual_joined : All (IsEdge faces.count) (map (dual_edge inst faces) (range_with_len 0 (bond_count inst)))
-    dual_joined = All-map (IsEdge faces.count) (dual_edge inst faces) (range_with_len 0 (bond_count inst)) at_place
+    dual_joined = All-map (IsEdge faces.count) (dual_edge inst faces) (range_with_len 0 (bond_count inst)) (λ i d l.
+        let low : i < bond_count inst = omega (arith, l, length-range_with_len 0 (bond_count inst)) in
+        is_edge (get_or (range_with_len 0 (bond_count inst)) i d) (omega (arith, get_or-range_with_len 0 (bond_count inst) i d low)))
       where
         is_edge : (k : ℕ) → k < bond_count inst → IsEdge faces.count (dual_edge inst faces k)
         is_edge k l = record {
           first_end = label_below inst faces labels (2 * k) (omega arith);
           second_end = label_below inst faces labels
               (2 * k + 1) (omega arith);
-          not_negative = size_positive (unsigned_abs (bond_at inst k).j);
+          not_negative = omega (arith, ints);
         }
-
-        at_place : All (λ k. IsEdge faces.count (dual_edge inst faces k)) (range_with_len 0 (bond_count inst))
-        at_place i d l =
-            let low : i < bond_count inst = omega (arith, l, length-range_with_len 0 (bond_count inst)) in
-            is_edge (get_or (range_with_len 0 (bond_count inst)) i d) (omega (arith, get_or-range_with_len 0 (bond_count inst) i d low))
 
     -- the dual keeps what each web keeps, if faces are few and the bonds not too heavy
     pub dual_is_web : IsInstance inst → faces.count ≤ 2 ^ 24 → weight inst ≤ 2 ^ 60 → IsWeb (dual_web inst faces)

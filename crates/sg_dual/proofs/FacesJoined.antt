@@ -1,12 +1,12 @@
 -- The dual of a connected instance is connected: the faces round a spin are joined one after another, and the two ends of a bond share its faces.
-use Rattle.std.proofs.Common.{inl, inr, ◌≡◌, ◌⊎◌, ℕ, zero, suc, ◌+◌, ◌*◌, ◌<◌, List, [], ◌∷◌, ◌++◌, length, get_or, refl, sym, ◌∙◌, ap, subst, arith}
+use Rattle.std.proofs.Common.{inl, inr, ◌≡◌, ℕ, zero, suc, ◌+◌, ◌*◌, ◌<◌, List, [], ◌∷◌, ◌++◌, length, get_or, refl, sym, ◌∙◌, ap, subst, arith}
 use Rattle.std.proofs.lemmas.Bool.{cases_eq}
-use Rattle.sg_model.specs.Ising.{Ising, bond_at, bond_count}
+use Rattle.sg_model.specs.Ising.{Ising, bond_count}
 use Rattle.sg_model.specs.Rotation.{dart_count, rev, tail, darts_of, following, next}
 use Rattle.sg_model.specs.WellFormed.{IsInstance}
-use Rattle.sg_model.specs.Connected.{JoinedBy, IsWalk, all_bonds}
+use Rattle.sg_model.specs.Connected.{IsWalk, all_bonds}
 use Rattle.sg_model.specs.Connected.{IsConnected as IsConnectedInstance}
-use Rattle.sg_model.proofs.Darts.{tail_first, tail_second, rev_first, rev_second}
+use Rattle.sg_model.proofs.Darts.{rev_first, rev_second}
 use Rattle.sg_faces.specs.Faces.{faces_before, Labelling, IsFaceLabels}
 use Rattle.sg_faces.proofs.BareSpins.{faces_bonded}
 use Rattle.sg_model.proofs.DartPairs.{dart_cases, rev_rev, rev_below}
@@ -16,19 +16,7 @@ use Rattle.sg_graph.specs.Walk.{IsReached, IsConnectedWeb}
 use Rattle.sg_graph.proofs.Walks.{walk-append, walk-back, walk-one}
 use Rattle.sg_dual.specs.Dual.{face_of, dual_web}
 use Rattle.sg_dual.proofs.DualWebs.{dual_leads, one_face_alone}
-use Rattle.sg_model.proofs.Paths.{reached_across}
-
--- where a bond joins two spins, a dart leaves the first and its reverse the second
-dart_of_step : (inst : Ising) (a b : ℕ) → JoinedBy inst all_bonds a b → (d : ℕ) × (d < dart_count inst) × (tail inst d ≡ a) × (tail inst (rev d) ≡ b)
-dart_of_step inst a b j = by_ends j.ends
-  where
-    below : j.bond < bond_count inst
-    below = j.below
-
-    by_ends : (((bond_at inst j.bond).u ≡ a) × ((bond_at inst j.bond).v ≡ b)) ⊎ (((bond_at inst j.bond).u ≡ b) × ((bond_at inst j.bond).v ≡ a))
-        → (d : ℕ) × (d < dart_count inst) × (tail inst d ≡ a) × (tail inst (rev d) ≡ b)
-    by_ends (inl (p, q)) = (2 * j.bond, omega (arith, below), tail_first inst j.bond ∙ p, ap (tail inst) (rev_first j.bond) ∙ tail_second inst j.bond ∙ q)
-    by_ends (inr (p, q)) = (2 * j.bond + 1, omega (arith, below), tail_second inst j.bond ∙ q, ap (tail inst) (rev_second j.bond) ∙ tail_first inst j.bond ∙ p)
+use Rattle.sg_model.proofs.Paths.{dart_of_step, reached_across}
 
 module _ (inst : Ising) (faces : Labelling) where
   -- a walk in the dual leads from the face of the first dart to that of the second
@@ -46,19 +34,18 @@ module _ (inst : Ising) (faces : Labelling) where
 
   -- the edge of its bond joins the face of a dart to that of the reverse
   pub linked_across : (d : ℕ) → d < dart_count inst → AreLinked d (rev d)
-  linked_across d l = by_dart (dart_cases d)
+  linked_across d l = let (k, which) = dart_cases d in elim which [
+    | inl e ↦
+        linked_on d (2 * k) (rev d) (linked_same d (2 * k) (ap (face_of faces) e))
+        (linked_on (2 * k) (2 * k + 1) (rev d) (over k (omega arith)) (linked_same (2 * k + 1) (rev d) (ap (face_of faces) (sym (ap rev e ∙ rev_first k)))))
+    | inr e ↦
+        linked_on d (2 * k + 1) (rev d) (linked_same d (2 * k + 1) (ap (face_of faces) e))
+        (linked_on (2 * k + 1) (2 * k) (rev d) (linked_back (2 * k) (2 * k + 1) (over k (omega arith)))
+        (linked_same (2 * k) (rev d) (ap (face_of faces) (sym (ap rev e ∙ rev_second k)))))
+  ]
     where
       over : (k : ℕ) → k < bond_count inst → AreLinked (2 * k) (2 * k + 1)
       over k b = (k ∷ [], walk-one (dual_web inst faces) k (face_of faces (2 * k)) (face_of faces (2 * k + 1)) (dual_leads inst faces k b))
-
-      by_dart : ((k : ℕ) × ((d ≡ 2 * k) ⊎ (d ≡ 2 * k + 1))) → AreLinked d (rev d)
-      by_dart (k, inl e) =
-          linked_on d (2 * k) (rev d) (linked_same d (2 * k) (ap (face_of faces) e))
-          (linked_on (2 * k) (2 * k + 1) (rev d) (over k (omega arith)) (linked_same (2 * k + 1) (rev d) (ap (face_of faces) (sym (ap rev e ∙ rev_first k)))))
-      by_dart (k, inr e) =
-          linked_on d (2 * k + 1) (rev d) (linked_same d (2 * k + 1) (ap (face_of faces) e))
-          (linked_on (2 * k + 1) (2 * k) (rev d) (linked_back (2 * k) (2 * k + 1) (over k (omega arith)))
-          (linked_same (2 * k) (rev d) (ap (face_of faces) (sym (ap rev e ∙ rev_second k)))))
 
   module _ (good : IsInstance inst) (labels : IsFaceLabels inst faces) where
     -- the face on the far side of a dart is that of the next dart round its spin
@@ -85,26 +72,25 @@ module _ (inst : Ising) (faces : Labelling) where
     -- two darts that leave one spin
     pub linked_spin : (d e : ℕ) → d < dart_count inst → e < dart_count inst → tail inst d ≡ tail inst e → AreLinked d e
     linked_spin d e l m t =
-        at_places (tail inst d) (tail_below inst good d l) (place_at inst good (tail inst d) d l refl) (place_at inst good (tail inst d) e m (sym t))
-      where
-        at_places : (i : ℕ) → i < inst.n → ((j : ℕ) × (j < length (darts_of inst i)) × (get_or (darts_of inst i) j 0 ≡ d))
-            → ((k : ℕ) × (k < length (darts_of inst i)) × (get_or (darts_of inst i) k 0 ≡ e)) → AreLinked d e
-        at_places i b (j, jl, jd) (k, kl, ke) =
-            let first : ℕ = get_or (darts_of inst i) 0 0 in
-            let at_j : ℕ = get_or (darts_of inst i) j 0 in
-            let at_k : ℕ = get_or (darts_of inst i) k 0 in
-            linked_on d at_j e (linked_same d at_j (ap (face_of faces) (sym jd)))
-            (linked_on at_j first e (linked_back first at_j (linked_round i b j jl))
-            (linked_on first at_k e (linked_round i b k kl) (linked_same at_k e (ap (face_of faces) ke))))
+        let i : ℕ = tail inst d in
+        let low = tail_below inst good d l in
+        let (j, jl, jd) = place_at inst good i d l refl in
+        let (k, kl, ke) = place_at inst good i e m (sym t) in
+        let first : ℕ = get_or (darts_of inst i) 0 0 in
+        let at_j : ℕ = get_or (darts_of inst i) j 0 in
+        let at_k : ℕ = get_or (darts_of inst i) k 0 in
+        linked_on d at_j e (linked_same d at_j (ap (face_of faces) (sym jd)))
+        (linked_on at_j first e (linked_back first at_j (linked_round i low j jl))
+        (linked_on first at_k e (linked_round i low k kl) (linked_same at_k e (ap (face_of faces) ke))))
 
     -- along a walk of bonds
     linked_along : (path : List ℕ) (a b : ℕ) → IsWalk inst all_bonds a path b → (d e : ℕ) → d < dart_count inst → e < dart_count inst
         → tail inst d ≡ a → tail inst e ≡ b → AreLinked d e
     linked_along [] a b w d e l m p q = linked_spin d e l m (p ∙ w ∙ sym q)
     linked_along (c ∷ path) a b w d e l m p q =
-        let s = dart_of_step inst a c w.0 in
-        linked_on d s.0 e (linked_spin d s.0 l s.1 (p ∙ sym s.2))
-        (linked_on s.0 (rev s.0) e (linked_across s.0 s.1) (linked_along path c b w.1 (rev s.0) e (rev_below inst s.0 s.1) m s.3 q))
+        let (s, below, leaves, enters, _) = dart_of_step inst all_bonds a c w.0 in
+        linked_on d s e (linked_spin d s l below (p ∙ sym leaves))
+        (linked_on s (rev s) e (linked_across s below) (linked_along path c b w.1 (rev s) e (rev_below inst s below) m enters q))
 
     -- the dual of a connected instance is connected
     pub dual_connected : IsConnectedInstance inst → IsConnectedWeb (dual_web inst faces)
@@ -112,14 +98,11 @@ module _ (inst : Ising) (faces : Labelling) where
       | inl none ↦ (let first : 0 ≡ x = omega (arith, one_face_alone inst faces labels good whole none) in ([], first))
       | inr some ↦
           let all : faces.count ≡ faces_before inst (dart_count inst) = labels.counts ∙ faces_bonded inst good whole (omega arith) in
-          between (labels.used 0 (omega (arith, l, all))) (labels.used x (omega (arith, l, all)))
+          let (d, dl, d0) = labels.used 0 (omega (arith, l, all)) in
+          let (e, el, ex) = labels.used x (omega (arith, l, all)) in
+          let a : ℕ = tail inst d in
+          let b : ℕ = tail inst e in
+          let way = reached_across inst all_bonds 0 a b (whole a (tail_below inst good d dl)) (whole b (tail_below inst good e el)) in
+          let link : AreLinked d e = linked_along way.0 a b way.1 d e dl el refl refl in
+          subst (λ y. IsReached (dual_web inst faces) y x) d0 (subst (IsReached (dual_web inst faces) (face_of faces d)) ex link)
     ]
-      where
-        between : ((d : ℕ) × (d < dart_count inst) × (face_of faces d ≡ 0)) → ((e : ℕ) × (e < dart_count inst) × (face_of faces e ≡ x))
-            → IsReached (dual_web inst faces) 0 x
-        between (d, dl, d0) (e, el, ex) =
-            let a : ℕ = tail inst d in
-            let b : ℕ = tail inst e in
-            let way = reached_across inst all_bonds 0 a b (whole a (tail_below inst good d dl)) (whole b (tail_below inst good e el)) in
-            let link : AreLinked d e = linked_along way.0 a b way.1 d e dl el refl refl in
-            subst (λ y. IsReached (dual_web inst faces) y x) d0 (subst (IsReached (dual_web inst faces) (face_of faces d)) ex link)
