@@ -43,12 +43,8 @@ module _ (g : Graph) (terminals : List ℕ) (tables : List Routes) (connected : 
 
   no_more : (i j : ℕ) → i < length terminals → j < length terminals → apart terminals tables i j ≤ apart terminals tables j i
   no_more i j l m =
-      omega (
-        arith,
-        diagonal i l,
-        distance-joined g (get_or terminals i 0) (get_or terminals j 0) (get_or terminals i 0) (apart terminals tables i j) (apart terminals tables i i)
-            (apart terminals tables j i) (far i j l m) (far i i l l) (far j i m l),
-      )
+      let most = distance-joined g _ _ _ _ _ _ (far i j l m) (far i i l l) (far j i m l) in
+      omega (arith, diagonal i l, most)
 
   symmetric : (i j : ℕ) → i < length terminals → j < length terminals → apart terminals tables i j ≡ apart terminals tables j i
   symmetric i j l m = omega (arith, no_more i j l m, no_more j i m l)
@@ -56,12 +52,8 @@ module _ (g : Graph) (terminals : List ℕ) (tables : List Routes) (connected : 
   triangle : (i j k : ℕ) → i < length terminals → j < length terminals → k < length terminals
       → apart terminals tables i k ≤ apart terminals tables i j + apart terminals tables j k
   triangle i j k l m n =
-      omega (
-        arith,
-        symmetric k j n m,
-        distance-joined g (get_or terminals i 0) (get_or terminals k 0) (get_or terminals j 0) (apart terminals tables i k) (apart terminals tables i j)
-            (apart terminals tables k j) (far i k l n) (far i j l m) (far k j n m),
-      )
+      let most = distance-joined g _ _ _ _ _ _ (far i k l n) (far i j l m) (far k j n m) in
+      omega (arith, symmetric k j n m, most)
 
   reaches : total_weight g ≤ forced_limit → (i : ℕ) → i < length terminals → (x : ℕ) → x < g.nodes → Reaches (table_at tables i) x
   reaches light i l x node =
@@ -118,14 +110,9 @@ module _ (terminals : List ℕ) (tables : List Routes) (t : Table) (metric : Are
     bounded = λ i j l m. omega (arith, cost_is i j l m, (metric.reaches i (omega (arith, rows.size)) j 0 (omega (arith, rows.size))).near);
     symmetric = λ i j l m. omega (arith, cost_is i j l m, cost_is j i m l, metric.symmetric i j (omega (arith, rows.size)) (omega (arith, rows.size)));
     diagonal = λ i l. omega (arith, cost_is i i l l, metric.diagonal i (omega (arith, rows.size)));
-    triangle = λ i j k l m n. omega (
-      arith,
-      cost_is i k l n,
-      cost_is i j l m,
-      cost_is j k m n,
-      metric.triangle i j k (omega (arith, rows.size))
-          (omega (arith, rows.size)) (omega (arith, rows.size)),
-    );
+    triangle = λ i j k l m n.
+        let most = metric.triangle i j k (omega (arith, rows.size)) (omega (arith, rows.size)) (omega (arith, rows.size)) in
+        omega (arith, cost_is i k l n, cost_is i j l m, cost_is j k m n, most);
   }
 
   -- what a family of the engine says of the terminals

@@ -1,5 +1,5 @@
 -- The ends of all pairs of mates are the terminals, each once.
-use Rattle.std.proofs.Common.{inl, inr, ap₂, ◌≡◌, ◌≢◌, ℕ, ◌<◌, Bool, true, false, ◌&&◌, eqb, eq-eqb, ltb, List, refl, ◌∙◌, sym, ap, arith, length, get_or, subst}
+use Rattle.std.proofs.Common.{inl, inr, ap₂, ◌≡◌, ◌≢◌, ℕ, ◌<◌, Bool, true, false, ◌&&◌, eqb, eq-eqb, ltb, List, ◌∙◌, sym, ap, arith, length, get_or, subst}
 use Rattle.std.specs.List.Sorted.{IsStrictlyIncreasing}
 use Rattle.std.proofs.lemmas.Bool.{cases_eq, cases_lt, eqb-true, le-ltb, lt-ltb, ne_eqb}
 use Rattle.sg_sums.specs.Parity.{parity_below, xor}
@@ -21,9 +21,7 @@ module _ (terminals mates : List ℕ) (rising : IsStrictlyIncreasing terminals) 
   ]
 
   same_test : (a b : Bool) → (a ≡ true → b ≡ true) → (b ≡ true → a ≡ true) → a ≡ b
-  same_test true b h k = sym (h refl)
-  same_test false true h k = k refl
-  same_test false false h k = refl
+  same_test a b h k = grind arith
 
   -- just one of two mates is the lesser
   one_leads : (i : ℕ) → i < length terminals → xor (leads_pair mates i) (leads_pair mates (get_or mates i 0)) ≡ true
@@ -48,16 +46,13 @@ module _ (terminals mates : List ℕ) (rising : IsStrictlyIncreasing terminals) 
       each : (k : ℕ) → k < length terminals → ends_pair terminals mates (get_or terminals i 0) k ≡ xor (leads_pair mates k && eqb i k)
           (leads_pair mates k && eqb (get_or mates i 0) k)
       each k n =
-          let first : eqb (get_or terminals k 0) (get_or terminals i 0) ≡ eqb i k =
-          same_test (eqb (get_or terminals k 0) (get_or terminals i 0)) (eqb i k)
+          let first = same_test (eqb (get_or terminals k 0) (get_or terminals i 0)) (eqb i k)
           (λ h. eq-eqb i k (sym (distinct k i n l (eqb-true (get_or terminals k 0) (get_or terminals i 0) h))))
           (λ h. eq-eqb (get_or terminals k 0) (get_or terminals i 0) (ap (λ z. get_or terminals z 0) (sym (eqb-true i k h)))) in
-          let second : eqb (get_or terminals (get_or mates k 0) 0) (get_or terminals i 0) ≡ eqb (get_or mates i 0) k =
-          same_test (eqb (get_or terminals (get_or mates k 0) 0) (get_or terminals i 0)) (eqb (get_or mates i 0) k)
+          let second = same_test (eqb (get_or terminals (get_or mates k 0) 0) (get_or terminals i 0)) (eqb (get_or mates i 0) k)
           (λ h. eq-eqb (get_or mates i 0) k (ap (λ z. get_or mates z 0)
           (sym (distinct (get_or mates k 0) i (pairing.low k n) l (eqb-true (get_or terminals (get_or mates k 0) 0) (get_or terminals i 0) h)))
-          ∙ pairing.back k n))
-          (λ h. eq-eqb (get_or terminals (get_or mates k 0) 0) (get_or terminals i 0)
+          ∙ pairing.back k n)) (λ h. eq-eqb (get_or terminals (get_or mates k 0) 0) (get_or terminals i 0)
           (ap (λ z. get_or terminals z 0) (ap (λ z. get_or mates z 0) (sym (eqb-true (get_or mates i 0) k h)) ∙ pairing.back i l))) in
           ap₂ (λ p q. leads_pair mates k && xor p q) first second ∙ and-xor (leads_pair mates k) (eqb i k) (eqb (get_or mates i 0) k)
 

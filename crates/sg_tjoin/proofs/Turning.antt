@@ -41,8 +41,7 @@ module _ (g : Graph) (terminals : List ℕ) (tables : List Routes) (mates : List
           ends = λ x. t.ends x ∙ sym (ap (λ b. xor (b && xor (eqb (get_or terminals i 0) x) (eqb (get_or terminals (get_or mates i 0) 0) x))
               (parity_below (ends_pair terminals mates x) i)) no_pair);
           weighs =
-              (let nothing : cond (leads_pair mates i) (apart terminals tables i (get_or mates i 0)) 0 ≡ 0 = ap
-              (λ b. cond b (apart terminals tables i (get_or mates i 0)) 0) no_pair in
+              (let nothing = ap (λ b. cond b (apart terminals tables i (get_or mates i 0)) 0) no_pair in
               omega (arith, t.weighs));
         })
 
@@ -67,8 +66,7 @@ module _ (g : Graph) (terminals : List ℕ) (tables : List Routes) (mates : List
               ∙ sym (ap (λ b. xor (b && xor (eqb (get_or terminals i 0) x) (eqb (get_or terminals (get_or mates i 0) 0) x))
               (parity_below (ends_pair terminals mates x) i)) a_pair);
           weighs =
-              (let more : cond (leads_pair mates i) (apart terminals tables i (get_or mates i 0)) 0 ≡ apart terminals tables i (get_or mates i 0) = ap
-              (λ b. cond b (apart terminals tables i (get_or mates i 0)) 0) a_pair in
+              (let more = ap (λ b. cond b (apart terminals tables i (get_or mates i 0)) 0) a_pair in
               omega (arith, t.weighs, turn.weighs, sum_by-append (edge_weight g) t.walks turn.walk));
         })
 
@@ -107,16 +105,10 @@ module _ (g : Graph) (terminals : List ℕ) (tables : List Routes) (mates : List
     -- twice their weight is at most the cost of the pairing
     pub turned_weight : 2 * weight_of g chosen ≤ pairing_cost (terminal_cost terminals tables) mates
     turned_weight =
-        omega (
-          arith,
-          chosen_below-weight (is_marked marks) (edge_weight g) (edge_count g),
-          sum_below-same (λ e. cond (is_marked marks e) (edge_weight g e) 0) (λ e. cond (is_odd_in t.walks e) (edge_weight g e) 0) (edge_count g)
-              (λ e l. ap (λ b. cond b (edge_weight g e) 0) (t.turned e l)),
-          odd_in-weight (edge_weight g) (edge_count g) t.walks t.below,
-          t.weighs,
-          twice (length terminals),
-          costs,
-        )
+        let weight = chosen_below-weight (is_marked marks) (edge_weight g) (edge_count g) in
+        let odd = sum_below-same (λ e. cond (is_marked marks e) (edge_weight g e) 0) (λ e. cond (is_odd_in t.walks e) (edge_weight g e) 0) (edge_count g)
+        (λ e l. ap (λ b. cond b (edge_weight g e) 0) (t.turned e l)) in
+        omega (arith, weight, odd, odd_in-weight (edge_weight g) (edge_count g) t.walks t.below, t.weighs, twice (length terminals), costs)
       where
         twice : (n : ℕ) → 2 * sum_below (λ i. cond (leads_pair mates i) (apart terminals tables i (get_or mates i 0)) 0) n ≡ sum_below
             (λ i. cond (leads_pair mates i) (terminal_cost terminals tables i (get_or mates i 0)) 0) n
@@ -124,8 +116,7 @@ module _ (g : Graph) (terminals : List ℕ) (tables : List Routes) (mates : List
         twice (suc n) = omega (arith, twice n, one (leads_pair mates n) (apart terminals tables n (get_or mates n 0)))
           where
             one : (b : Bool) (v : ℕ) → 2 * cond b v 0 ≡ cond b (2 * v) 0
-            one true v = refl
-            one false v = refl
+            one b v = grind arith
 
         costs : pairing_cost (terminal_cost terminals tables) mates ≡ sum_below
             (λ i. cond (leads_pair mates i) (terminal_cost terminals tables i (get_or mates i 0)) 0) (length terminals)
