@@ -31,8 +31,7 @@ stands_some e [] h = absurd (false≢true h)
 stands_some e (k ∷ es) h = omega (arith, stands-cons e k es, some (eqb k e) (holds es e) (stands e es) h (stands_some e es))
   where
     some : (b c : Bool) (n : ℕ) → (b || c) ≡ true → (c ≡ true → 0 < n) → 0 < n + cond b 1 0
-    some true c n h rest = omega arith
-    some false c n h rest = let more : 0 < n = rest h in omega (arith, more)
+    some b c n h rest = grind arith
 
 -- ---- a sum over a list, told by how often each number stands in it
 
@@ -46,20 +45,13 @@ once_more false s w v h = let none : s + 0 ≡ s = omega arith in rw none (omega
 
 -- a sum over a list, by how often each edge stands in it
 pub sum_by_stands : (w : ℕ → ℕ) (m : ℕ) (es : List ℕ) → All (λ e. e < m) es → sum_by w es ≡ sum_below (λ e. stands e es * w e) m
-sum_by_stands w m [] low = sym (sum_below-zero (λ e. stands e [] * w e) m (λ e l. none (w e)))
-  where
-    none : (w : ℕ) → 0 * w ≡ 0
-    none w = grind arith
+sum_by_stands w m [] low = sym (sum_below-zero (λ e. stands e [] * w e) m (λ e l. omega arith))
 sum_by_stands w m (k ∷ es) low =
-    omega (
-      arith,
-      sum_by-cons w k es,
-      sum_by_stands w m es (All-tail (λ e. e < m) k es low),
-      sum_below-same (λ e. stands e (k ∷ es) * w e) (λ e. stands e es * w e + cond (eqb k e) (w k) 0) m
-          (λ e l. ap (λ n. n * w e) (stands-cons e k es) ∙ once_more (eqb k e) (stands e es) (w e) (w k) (λ t. ap w (eqb-true k e t))),
-      sum_below-add (λ e. stands e es * w e) (λ e. cond (eqb k e) (w k) 0) m,
-      sum_below_pick (w k) k m (All-head (λ e. e < m) k es low),
-    )
+    let more = sum_below-same (λ e. stands e (k ∷ es) * w e) (λ e. stands e es * w e + cond (eqb k e) (w k) 0) m
+    (λ e l. ap (λ n. n * w e) (stands-cons e k es) ∙ once_more (eqb k e) (stands e es) (w e) (w k) (λ t. ap w (eqb-true k e t))) in
+    let added = sum_below-add (λ e. stands e es * w e) (λ e. cond (eqb k e) (w k) 0) m in
+    let once = sum_below_pick (w k) k m (All-head (λ e. e < m) k es low) in
+    omega (arith, sum_by-cons w k es, sum_by_stands w m es (All-tail (λ e. e < m) k es low), more, added, once)
 
 -- ---- the edges that stand an even number of times
 
@@ -69,18 +61,14 @@ split o f = grind arith
 -- what stands at least once stands once, and once more where the times are even
 enough : (s w : ℕ) → 0 < s → w + cond (not (odd s)) w 0 ≤ s * w
 enough zero w some = absurd (omega arith)
-enough (suc zero) w some = let e : 1 * w ≡ w = single w in omega (arith, e)
-  where
-    single : (w : ℕ) → 1 * w ≡ w
-    single w = grind arith
+enough (suc zero) w some = omega arith
 enough (suc (suc t)) w some =
     let most : cond {A = ℕ} (not (odd (suc (suc t)))) w 0 ≤ w = at_most (not (odd (suc (suc t)))) w in
     let e : suc (suc t) * w ≡ t * w + (w + w) = two_more t w in
     omega (arith, most, e)
   where
     at_most : (b : Bool) (w : ℕ) → cond {A = ℕ} b w 0 ≤ w
-    at_most true w = omega arith
-    at_most false w = omega arith
+    at_most b w = grind arith
 
     plain : (t w : ℕ) → (t + 2) * w ≡ t * w + (w + w)
     plain t w = grind arith
@@ -124,15 +112,10 @@ module _ (g : Graph) (es : List ℕ) (closed : IsClosedWalk g es) where
   closed_walk_weighs join least =
       let twice : ℕ → ℕ = λ e. cond (is_even_in e) (edge_weight g e) 0 in
       let bound = sum_below-le (λ e. edge_weight g e + twice e) (λ e. stands e es * edge_weight g e) (edge_count g) each in
-      omega (
-        arith,
-        least.least evens evens_join,
-        chosen_below-weight is_even_in (edge_weight g) (edge_count g),
-        sum_by_is_sum_below weight_at g.edges (record { a = 0; b = 0; w = pos 0 }),
-        sum_below-add (edge_weight g) twice (edge_count g),
-        bound,
-        sum_by_stands (edge_weight g) (edge_count g) es low,
-      )
+      let weight = chosen_below-weight is_even_in (edge_weight g) (edge_count g) in
+      let all = sum_by_is_sum_below weight_at g.edges (record { a = 0; b = 0; w = pos 0 }) in
+      let added = sum_below-add (edge_weight g) twice (edge_count g) in
+      omega (arith, least.least evens evens_join, weight, all, added, bound, sum_by_stands (edge_weight g) (edge_count g) es low)
     where
       each : (e : ℕ) → e < edge_count g → edge_weight g e + cond (is_even_in e) (edge_weight g e) 0 ≤ stands e es * edge_weight g e
       each e l =

@@ -17,17 +17,7 @@ use Rattle.sg_postman.proofs.Trails.{end-append, times-append, trail-append, tra
 
 -- one copy less of one edge, and all others as before
 pub taken : (left : List ℕ) (e k : ℕ) → e < length left → 0 < left_of left e → left_of left k ≡ left_of (one_less left e) k + cond (eqb e k) 1 0
-taken left e k l some = elim (cases_eq e k) [
-  | inl is ↦
-      let same : left_of (one_less left e) e ≡ left_of left e - 1 = get_or-set_same left e (left_of left e - 1) 0 l in
-      let at : left_of left e ≡ left_of (one_less left e) e + 1 = omega (arith, same, some) in
-      subst (λ x. left_of left x ≡ left_of (one_less left e) x + cond (eqb e x) 1 0) is
-      (at ∙ ap (λ b. left_of (one_less left e) e + cond {A = ℕ} b 1 0) (sym (eq-eqb e e refl)))
-  | inr other ↦
-      let same : left_of (one_less left e) k ≡ left_of left k = get_or-set_other left e k (left_of left e - 1) 0 (λ h. other (sym h)) in
-      let none : eqb e k ≡ false = false_from_ne_true (eqb e k) (λ h. other (eqb-true e k h)) in
-      rw (same, none) (let z : left_of left k ≡ left_of left k + 0 = omega arith in z)
-]
+taken left e k l some = grind (arith, cases_eq e k, get_or-set_same left e (left_of left e - 1) 0 l, get_or-set_other left e k (left_of left e - 1) 0)
 
 -- no edge gains a copy
 pub one_less_low : (left : List ℕ) (e k : ℕ) → e < length left → 0 < left_of left e → left_of (one_less left e) k ≤ left_of left k
@@ -139,8 +129,7 @@ module _ (g : Graph) (web : IsWeb g) (copies : ℕ → ℕ) where
   none_open left x spent = sum_below-zero (λ k. left_of left k * ends_at g x k) (edge_count g) each
     where
       nothing : (m n : ℕ) → (m ≡ 0) ⊎ (n ≡ 0) → m * n ≡ 0
-      nothing m n (inl h) = grind arith
-      nothing m n (inr h) = grind arith
+      nothing m n none = grind (arith, none)
 
       each : (k : ℕ) → k < edge_count g → left_of left k * ends_at g x k ≡ 0
       each k b = elim (no_ends g x k b) [
