@@ -1,4 +1,4 @@
-ghost use Rattle.std.specs.Prelude.{◌≡◌, ◌⊎◌, ◌<◌, ◌≤◌, ℕ, true, false, length, IfSome, IfNone, IfOk, MatchOption};
+ghost use Rattle.std.specs.Prelude.{◌≡◌, ◌⊎◌, ◌<◌, ◌≤◌, ℕ, true, false, length, IfSome, IfNone, IfOk, IfErr, MatchOption};
 ghost use Rattle.sg_model.specs.Ising.{bond_count};
 ghost use Rattle.sg_model.specs.Rotation.{dart_count, tail, is_dart_of, darts_of, IsRotation};
 ghost use Rattle.sg_model.specs.Misplaced.{IsInPlace, IsFirstMisplaced};
@@ -8,8 +8,9 @@ ghost use Rattle.sg_sums.specs.Sets.{is_marked};
 ghost use Rattle.sg_model.specs.Marks.{AllMarked, MarksList, MarksSpins, IsLeastUnmarked};
 ghost use Rattle.sg_model.specs.Seam.{IsSeam};
 ghost use Rattle.sg_model.specs.WellFormed.{IsDraft};
+ghost use Rattle.sg_model.specs.Faults.{IsRefusalOf, OrNoMemory};
 
-use super::{BondList, Bonds, NoMemory, Rotation};
+use super::{BondList, Bonds, Fault, NoMemory, Refusal, Rotation};
 use std::alloc::Global;
 use std::marker::Model;
 
@@ -172,5 +173,23 @@ impl Draft {
     {
         let mut marked = vec![in alloc; false; self.bonds.len()]?;
         Ok(self.mark_seam(&mut marked))
+    }
+
+    /// Tests the rotation, and then the seam.
+    pub(crate) fn judge(&self, alloc: Global) -> Result<(), Fault>
+        ensures rotation { IfOk result (λ _. IsRotation self.now) }
+        ensures seam { IfOk result (λ _. IsSeam self.now) }
+        ensures refused { IfErr result (OrNoMemory (IsRefusalOf self.now)) }
+    {
+        if let Some(wrong) = self.wrong_dart(alloc)? {
+            return Err(Fault::Refused(Refusal::BadRotation {
+                spin: wrong.spin,
+                dart: wrong.dart,
+            }));
+        }
+        if let Some(bond) = self.wrong_bond(alloc)? {
+            return Err(Fault::Refused(Refusal::BadSeam { bond }));
+        }
+        Ok(())
     }
 }

@@ -8,7 +8,7 @@ ghost use Rattle.sg_model.specs.Changes.{HasSameEnds, coupled_bonds, flipped_at,
 ghost use Rattle.sg_model.specs.Energy.{energy, product, weight as weight_of};
 
 use super::draft::Draft;
-use super::{Bond, BondList, Bonds, Couplings, Fault, NoMemory, Refusal, Rotation, Spins};
+use super::{Bond, BondList, Bonds, Couplings, Fault, NoMemory, Rotation, Spins};
 use std::alloc::Global;
 use std::marker::Model;
 
@@ -67,15 +67,7 @@ impl Instance {
             rotation,
             seam,
         };
-        if let Some(wrong) = draft.wrong_dart(alloc)? {
-            return Err(Fault::Refused(Refusal::BadRotation {
-                spin: wrong.spin,
-                dart: wrong.dart,
-            }));
-        }
-        if let Some(bond) = draft.wrong_bond(alloc)? {
-            return Err(Fault::Refused(Refusal::BadSeam { bond }));
-        }
+        draft.judge(alloc)?;
         let Draft {
             n,
             bonds,
