@@ -77,11 +77,20 @@ impl Shape {
         ensures { IfOk result (λ bonds. bonds ≡ bonds_between (ends_of self.kind self.rows self.cols) j.now) }
     {
         let mut bonds = Bonds::new(alloc);
-        bonds.reserve(j.len())?;
-        self.push_bonds(Step::East, j, &mut bonds)?;
-        self.push_bonds(Step::South, j, &mut bonds)?;
-        self.push_bonds(Step::SouthEast, j, &mut bonds)?;
+        self.push_all(j, &mut bonds)?;
         Ok(bonds)
+    }
+
+    // Adds the bonds of all steps to an empty list.
+    fn push_all(self, j: &Couplings, bonds: &mut Bonds) -> Result<(), NoMemory>
+        requires { bonds.old ≡ [] }
+        ensures { OnOk result (bonds.new ≡ bonds_between (ends_of self.kind self.rows self.cols) j.now) }
+    {
+        bonds.reserve(j.len())?;
+        self.push_bonds(Step::East, j, bonds)?;
+        self.push_bonds(Step::South, j, bonds)?;
+        self.push_bonds(Step::SouthEast, j, bonds)?;
+        Ok(())
     }
 
     // Adds the bonds of one step, behind those between some ends.

@@ -1,6 +1,16 @@
-use Rattle.std.proofs.Common.{ℕ, List, [], ◌∷◌, ◌++◌, ◌∙◌, ap, append_assoc}
+use Rattle.std.proofs.Common.{ℕ, List, [], ◌∷◌, ◌++◌, ◌∙◌, ap, append_assoc, arith}
+use Rattle.std.proofs.lemmas.Grind.{elements}
 use Rattle.sg_list.proofs.LastLists.{last_more}
 use Rattle.sg_lattice.proofs.shape.Shape.push_spin.Goals as goal
+
+pub push_west-requires-clause-some : goal.push_west-requires-clause-some
+push_west-requires-clause-some c = grind (arith, elements)
+
+pub push_forth-requires-2-clause-some : goal.push_forth-requires-2-clause-some
+push_forth-requires-2-clause-some c = grind (arith, elements)
+
+pub push_forth-requires-3-clause-some : goal.push_forth-requires-3-clause-some
+push_forth-requires-3-clause-some c = grind (arith, elements)
 
 -- each call adds its darts to the list that was opened
 pub returns : goal.returns
