@@ -1,6 +1,6 @@
 /// What the checker finds: that the proof holds, or the first test that fails, with the numbers
 /// that show it. Loops, spins and bonds are counted from 0, and the least that fails is named.
-#[derive(Clone, Copy, PartialEq, Eq, Debug)]
+#[derive(Clone, Copy)]
 pub enum Verdict {
     /// The proof holds: no assignment has less energy.
     Yes,
