@@ -3,7 +3,9 @@ ghost use Rattle.sg_model.specs.Ising.{bond_at, bond_count};
 ghost use Rattle.sg_model.specs.Rotation.{darts_of};
 ghost use Rattle.sg_model.specs.Connected.{IsConnected, all_bonds};
 ghost use Rattle.sg_model.specs.WellFormed.{IsInstance};
+ghost use Rattle.sg_faces.specs.Faces.{IsFaceLabels, Labelling};
 ghost use Rattle.sg_walk.specs.Naming.{AllNamed};
+ghost use Rattle.sg_planar.specs.Fit.{IsPlanar};
 ghost use Rattle.sg_planar.specs.declared.components.Division.TheVariants.{Whole};
 ghost use Rattle.sg_planar.specs.Parts.{AreParts, IsDivision, IsPart, restricted};
 ghost use Rattle.sg_planar.specs.Splitting.{ArePlaces, IsClosedPart, IsSplit, placed_bond, placed_darts};
@@ -177,6 +179,19 @@ fn part_instance(
     Ok(Instance::of_parts(spins.len() as u32, list, rotation, BondList::new(alloc)))
 }
 
+// The planar instance of a connected instance, which is drawn on a sphere.
+fn planar_of(alloc: Global, instance: Instance) -> Result<Planar, NoMemory>
+    requires connected { IsConnected instance }
+    requires planar { (faces : Labelling) → IsFaceLabels instance faces →
+        IsPlanar (record { instance = instance; faces = faces }) }
+    ensures instance { IfOk result (λ p. p.instance ≡ instance) }
+    ensures planar { IfOk result IsPlanar }
+{
+    let faces = trace(alloc, &instance)?;
+    let components = Components::whole(alloc, &instance)?;
+    Ok(Planar::of(instance, faces, components))
+}
+
 // The part of the component with this least spin.
 fn part_from(
     alloc: Global,
@@ -202,9 +217,7 @@ fn part_from(
         &split.spins.places,
         &split.bonds.places,
     )?;
-    let faces = trace(alloc, &instance)?;
-    let components = Components::whole(alloc, &instance)?;
-    let planar = Planar::of(instance, faces, components);
+    let planar = planar_of(alloc, instance)?;
     Ok(Part {
         spins,
         bonds,

@@ -186,14 +186,26 @@ impl Planar {
         self.drawn_with(instance)
     }
 
+    // A copy of the faces and the components.
+    fn drawing(&self) -> Result<Drawing, NoMemory>
+        ensures faces { IfOk result (λ copy. copy.faces ≡ self.now.faces) }
+        ensures components { IfOk result (λ copy.
+            AreComponents self.now.instance copy.components.names copy.components.leasts) }
+        ensures planar { IsPlanar self.now }
+    {
+        let faces = self.faces.clone()?;
+        let components = self.components.clone()?;
+        Ok(Drawing { faces, components })
+    }
+
     // A copy of the drawing, with an instance that differs from this one in couplings alone.
     fn drawn_with(&self, instance: Instance) -> Result<Planar, NoMemory>
         requires { IsRedrawn self.now.instance instance }
         ensures copy { IfOk result (λ copy. copy ≡ record { instance = instance; faces = self.now.faces }) }
         ensures planar { IfOk result IsPlanar }
     {
-        let faces = self.faces.clone()?;
-        let components = self.components.clone()?;
+        let drawing = self.drawing()?;
+        let Drawing { faces, components } = drawing;
         Ok(Planar {
             instance,
             faces,

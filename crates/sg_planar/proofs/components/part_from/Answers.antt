@@ -1,7 +1,5 @@
-use Rattle.std.proofs.Common.{◌≡◌, ◌∙◌, ap, sym, subst, List, ℕ, arith}
+use Rattle.std.proofs.Common.{◌≡◌, ◌∙◌, ap, List, ℕ, arith}
 use Rattle.sg_model.specs.Ising.{Ising}
-use Rattle.sg_faces.specs.Faces.{IsFaceLabels}
-use Rattle.sg_planar.specs.Fit.{Embedding, IsPlanar}
 use Rattle.sg_planar.specs.Parts.{restricted}
 use Rattle.sg_planar.proofs.NamedParts.{IsDealtPart, dealt_part}
 use Rattle.sg_planar.proofs.components.part_from.Goals as goal
@@ -28,22 +26,18 @@ part_instance-requires-clause-bond_places c = grind (arith, dealt)
 made : {inst lent part : Ising} (spins bonds : List ℕ) → part ≡ restricted lent spins bonds → lent ≡ inst → part ≡ restricted inst spins bonds
 made spins bonds is same = is ∙ ap (λ i. restricted i spins bonds) same
 
-pub whole-requires : goal.whole-requires
-whole-requires c =
+pub planar_of-requires-clause-connected : goal.planar_of-requires-clause-connected
+planar_of-requires-clause-connected c =
     rw (made c.in_ok-spins.spins c.in_ok-bonds.bonds c.in_ok-instance.ensures c.instance-inst.ensures.value)
-    (dealt (goal.at.whole-requires c).After-deref-2).connected
+    (dealt (goal.at.planar_of-requires-clause-connected c).After-deref-2).connected
 
-pub of-planar-requires-clause-planar : goal.of-planar-requires-clause-planar
-of-planar-requires-clause-planar c =
-    let is = made c.in_ok-spins.spins c.in_ok-bonds.bonds c.in_ok-instance.ensures c.instance-inst.ensures.value in
-    subst (λ i. IsPlanar (record { instance = i; faces = c.in_ok-faces.faces })) (sym is)
-    ((dealt (goal.at.of-planar-requires-clause-planar c).After-deref-2).planar c.in_ok-faces.faces
-    (subst (λ i. IsFaceLabels i c.in_ok-faces.faces) is c.in_ok-faces.ensures.labels))
+pub planar_of-requires-clause-planar : goal.planar_of-requires-clause-planar
+planar_of-requires-clause-planar c =
+    rw (made c.in_ok-spins.spins c.in_ok-bonds.bonds c.in_ok-instance.ensures c.instance-inst.ensures.value)
+    (dealt (goal.at.planar_of-requires-clause-planar c).After-deref-2).planar
 
 pub returns : goal.returns
 returns c =
-    let part = dealt (goal.at.returns c).After-deref-2 in
-    let is = made c.in_ok-spins.spins c.in_ok-bonds.bonds c.in_ok-instance.ensures c.instance-inst.ensures.value in
-    part.part c.of-planar.result (ap (λ (p : Embedding). p.instance) c.of-planar.ensures ∙ is)
-    (subst IsPlanar (sym (c.of-planar.ensures ∙ ap (λ i. record { instance = i; faces = c.in_ok-faces.faces }) is))
-    (part.planar c.in_ok-faces.faces (subst (λ i. IsFaceLabels i c.in_ok-faces.faces) is c.in_ok-faces.ensures.labels)))
+    (dealt (goal.at.returns c).After-deref-2).part c.in_ok-planar.planar
+    (c.in_ok-planar.ensures.instance ∙ made c.in_ok-spins.spins c.in_ok-bonds.bonds c.in_ok-instance.ensures c.instance-inst.ensures.value)
+    c.in_ok-planar.ensures.planar
