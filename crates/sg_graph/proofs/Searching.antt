@@ -1,10 +1,11 @@
 -- A search from node 0, edge by edge and node by node.
 use Rattle.std.proofs.lemmas.Grind.{common_steps}
-use Rattle.std.proofs.Common.{inl, inr, ⊎_elim, ◌≡◌, ◌≢◌, ℕ, ◌+◌, ◌<◌, ◌≤◌, Bool, true, false, List, [], ◌∷◌, ◌++◌, set, take, All, Contains, sym, ◌∙◌, ap, subst, arith, length, get_or, pos}
+use Rattle.std.proofs.Common.{inl, inr, ⊎_elim, ◌≡◌, ◌≢◌, ℕ, ◌+◌, ◌<◌, ◌≤◌, Bool, true, false, List, [], ◌∷◌, ◌++◌, replicate, set, take, All, Contains, sym, ◌∙◌, ap, subst, arith, length, get_or, pos}
 use Rattle.std.proofs.lemmas.Bool.{cases_eq, cases_lt, false≢true, true≢false}
-use Rattle.std.proofs.lemmas.List.{length-set, length_push, get_or-set_same, get_or-set_other, get_or_append_left, get_or_past, get_or_default}
+use Rattle.std.proofs.lemmas.List.{length-replicate, length-set, length_push, get_or-set_same, get_or-set_other, get_or_append_left, get_or_past, get_or_default}
 use Rattle.std.proofs.lemmas.List.Elements.{All-more, All-push, All-weaker, Contains-append_left, Contains-push}
 use Rattle.std.proofs.lemmas.List.Sums.{sum_by-set}
+use Rattle.sg_sums.proofs.MarkLaws.{none_free}
 use Rattle.sg_sums.specs.Sets.{holds, is_marked}
 use Rattle.sg_graph.specs.declared.web.Edge.{Edge}
 use Rattle.sg_graph.specs.Web.{Graph, IsWeb, edge_at}
@@ -91,6 +92,14 @@ pub record Explores (g : Graph) (marks : List Bool) (found : List ℕ) (next : �
 -- a marked place is one of the list
 pub marked_low : (marks : List Bool) (x : ℕ) → is_marked marks x ≡ true → x < length marks
 marked_low marks x h = elim (cases_lt x (length marks)) [ inl l ↦ l | inr l ↦ absurd (false≢true (sym (get_or_past marks x false l) ∙ h)) ]
+
+-- node 0 is found, and is not spread yet
+pub Explores-first : (g : Graph) (marks : List Bool) (found : List ℕ) → IsWeb g → marks ≡ replicate g.nodes false → found ≡ 0 ∷ [] →
+    Explores g (set marks 0 true) found 0
+Explores-first g marks found web bare one = rw (bare, one) (grind (arith, common_steps, only, length-set, length-replicate, get_or-set_same, web.has_node))
+  where
+    only : (x : ℕ) → is_marked (set (replicate g.nodes false) 0 true) x ≡ true → x ≡ 0
+    only x marked = grind (arith, cases_eq, false≢true, get_or-set_other, none_free)
 
 -- the next node is spread
 pub Explores-more : (g : Graph) (old new : List Bool) (before after : List ℕ) (next node : ℕ) (lists : List (List ℕ)) → AreIncident g lists

@@ -1,9 +1,15 @@
-use Rattle.std.proofs.Common.{◌<◌, arith, length, subst}
+use Rattle.std.proofs.Common.{◌∙◌, ◌<◌, ◌++◌, ◌∷◌, [], ap, arith, false, length, replicate, subst}
 use Rattle.std.proofs.lemmas.List.{get_or_read}
 use Rattle.sg_graph.specs.Search.{VisitsEdges}
 use Rattle.sg_graph.proofs.Incidences.{incident_ends}
-use Rattle.sg_graph.proofs.Searching.{Explores-more, MarksReached-all, marked_low}
+use Rattle.sg_graph.proofs.Searching.{Explores-first, Explores-more, MarksReached-all, marked_low}
 use Rattle.sg_graph.proofs.search.marks_from_first.Goals as goal
+
+pub loop-next-init : goal.loop-next-init
+loop-next-init c =
+    Explores-first c.args.web.now c.in_ok-marks.marks.items c.push.new.self.items c.nodes.ensures.web
+    (c.in_ok-marks.ensures.items_if_clones_equal (λ y e. e) ∙ ap (λ n. replicate n false) c.nodes.ensures.value)
+    (c.in_ok-push.ensures.items ∙ ap (λ xs. xs ++ 0 ∷ []) c.new-found.ensures.items)
 
 pub visit-requires-clause-here : goal.visit-requires-clause-here
 visit-requires-clause-here c = grind (arith, marked_low, incident_ends)
