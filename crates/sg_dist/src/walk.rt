@@ -18,17 +18,14 @@ pub fn path(alloc: Global, web: &Web, table: &Table, to: u32) -> Result<EdgeList
     ensures none_twice { IfOk result (AllPairs (λ e f. e ≢ f)) }
 {
     let back = way_back(alloc, web, table, to)?;
-    turned_round(alloc, &back)
+    Ok(turned_round(back))
 }
 
-fn turned_round(alloc: Global, back: &[u32]) -> Result<EdgeList, NoMemory>
-    ensures { IfOk result (λ edges. edges ≡ reverse back.now) }
+fn turned_round(mut back: Vec<u32>) -> EdgeList
+    ensures { result ≡ reverse back.items }
 {
-    let mut edges = EdgeList::new(alloc);
-    for edge in back.iter().rev() {
-        edges.push(*edge)?;
-    }
-    Ok(edges)
+    back.reverse();
+    EdgeList::from_vec(back)
 }
 
 // The parent edges from the node back to the source.
