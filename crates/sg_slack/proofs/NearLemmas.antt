@@ -1,5 +1,5 @@
 -- What a `Near` keeps, call by call.
-use Rattle.std.proofs.Common.{◌≡◌, ℕ, ◌<◌, ◌≤◌, ◌+◌, List, [], ◌∷◌, ◌++◌, length, map, get_or, set, ℤ, pos}
+use Rattle.std.proofs.Common.{◌≡◌, ℕ, zero, suc, ◌<◌, ◌≤◌, ◌+◌, ◌^◌, List, [], ◌∷◌, ◌++◌, length, map, get_or, set, ℤ, pos}
 use Rattle.std.proofs.Common.{◌+ℤ◌, ◌-ℤ◌, ◌≤ℤ◌, Option, Some, None, Bool, true, false, FitsSigned}
 use Rattle.std.proofs.Common.{◌⊎◌, refl, sym, ap, ◌∙◌, subst, arith, w64, of_z, to_z, length-append}
 use Rattle.std.proofs.lemmas.Int.{ints, to_z-of_z}
@@ -176,6 +176,14 @@ module _ {t : Table} {rise : ℤ} {ms : List Kept} {places : List ℕ} {nearest 
               let here : IsNearestFree t nearest marks (nearest_at nearest v).leaf v = record { v_leaf = pair.v_leaf; nearest_is = refl; free = pair.free } in
               omega (arith, ints, least.least (nearest_at nearest v).leaf v here, nearest-least u v (nearest_at nearest v).leaf some here pair);
         }
+
+  -- what all have risen by, a difference of two totals
+  pub rise-high : rise ≤ℤ pos (2 ^ 65)
+  rise-high = by (length ms) refl
+    where
+      by : (n : ℕ) → length ms ≡ n → rise ≤ℤ pos (2 ^ 65)
+      by zero none = omega (arith, ints, near.rise_none none)
+      by (suc n) some = omega (arith, ints, near.first (omega arith), near.fits 0 (omega arith))
 
   -- a change of the rise
   IsNear-moved : (to : ℤ) → 0 < length ms → rise ≤ℤ to → ((i : ℕ) → i < length ms → FitsSigned w64 ((kept_at ms i).base +ℤ to)) → IsNear t to ms places nearest

@@ -110,10 +110,7 @@ impl Near {
         ensures table { self.new.table ≡ self.old.table }
         ensures members { self.new.members ≡ self.old.members ++ record { leaf = leaf; total = total } ∷ [] }
     {
-        let member = Kept {
-            leaf,
-            base: i128::from(total) - self.rise,
-        };
+        let member = kept_of(leaf, total, self.rise);
         let first = self.members.is_empty();
         take_nearer(&self.costs, &mut self.nearest, member, first);
         self.places[leaf as usize] = self.members.len();
@@ -169,6 +166,20 @@ impl Near {
             return None;
         }
         nearest_kept(&self.costs, self.rise, &self.nearest, total, mark)
+    }
+}
+
+// What is kept of a new member, after all have risen by so much.
+fn kept_of(leaf: u32, total: i64, rise: i128) -> Kept
+    requires whole { pos 0 ≤ℤ rise }
+    requires high { rise ≤ℤ pos (2 ^ 65) }
+    ensures kept { result ≡ record { leaf = leaf; base = total -ℤ rise } }
+    ensures low { negsuc (2 ^ 66) ≤ℤ result.base }
+    ensures high { result.base ≤ℤ pos (2 ^ 66) }
+{
+    Kept {
+        leaf,
+        base: i128::from(total) - rise,
     }
 }
 

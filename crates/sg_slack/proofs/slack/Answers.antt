@@ -4,4 +4,6 @@ use Rattle.sg_slack.proofs.slack.Goals as goal
 
 pub returns : goal.returns
 returns c =
-    grind (arith, ints, c.requires.fits.first, c.requires.u, c.requires.v, c.requires.fits.slack, c.cost.ensures, c.difference.ensures, c.difference-2.ensures)
+    let first = c.requires.fits.first c.args.u c.args.v c.requires.u c.requires.v in
+    let whole = c.requires.fits.slack c.args.u c.args.v c.requires.u c.requires.v in
+    omega (arith, ints, c.cost.ensures, c.difference.ensures, c.difference-2.ensures)

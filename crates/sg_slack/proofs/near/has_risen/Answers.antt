@@ -7,5 +7,8 @@ use Rattle.sg_slack.proofs.near.has_risen.Goals as goal
 pub returns-in-Outer-clause-each : goal.returns-in-Outer-clause-each
 returns-in-Outer-clause-each c = grind (arith, ints, to_z-of_z, eq-eqb, c.from-now.ensures)
 
+pub returns-in-Outer-clause-risen : goal.returns-in-Outer-clause-risen
+returns-in-Outer-clause-risen c = grind (arith, ints, to_z-of_z, eq-eqb, c.from-now.ensures)
+
 pub returns-in_default-clause-each : goal.returns-in_default-clause-each
 returns-in_default-clause-each c = λ is. absurd (c.in_default.not-Outer is.0)

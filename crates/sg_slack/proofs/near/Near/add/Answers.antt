@@ -1,10 +1,10 @@
 -- `add`: the new member takes the leaves to which it is nearer.
-use Rattle.std.proofs.Common.{◌≡◌, ℕ, ◌<◌, ◌++◌, ◌∷◌, [], length, ℤ, ◌-ℤ◌, false, true, arith, subst, sym, ap, ◌∙◌, rules, to_z, of_z, w64}
+use Rattle.std.proofs.Common.{◌≡◌, ℕ, ◌<◌, ◌++◌, ◌∷◌, [], length, ◌-ℤ◌, false, true, arith, subst, sym, ap, ◌∙◌, rules, w64}
 use Rattle.std.specs.Int.{w128}
 use Rattle.std.specs.Vec.{with_items}
-use Rattle.std.proofs.lemmas.Int.{to_z-of_z}
+use Rattle.std.proofs.lemmas.Int.{ints, to_z-of_z}
 use Rattle.std.proofs.lemmas.List.{with_items_is}
-use Rattle.sg_slack.proofs.NearLemmas.{IsNear-added, members-more, room-more, wrapped_difference}
+use Rattle.sg_slack.proofs.NearLemmas.{IsNear-added, members-more, rise-high, room-more}
 use Rattle.sg_slack.specs.Kept.{IsTakenAt, members_of, nearest_at}
 use Rattle.sg_slack.specs.Members.{IsMember, Known}
 use Rattle.sg_slack.specs.declared.member.Kept.{Kept}
@@ -17,6 +17,9 @@ low c = subst (λ (s : Known). c.args.leaf < s.table.size) (sym c.self.view_is) 
 fresh : (c : After-self) → IsMember (members_of c.self.inside.rise c.self.inside.members.items) c.args.leaf → ⊥
 fresh c = grind (arith, c.self.view_is, c.requires.fresh)
 
+pub kept_of-member-requires-clause-high : goal.kept_of-member-requires-clause-high
+kept_of-member-requires-clause-high c = omega (arith, ints, rise-high c.self.invariant.near, to_z-of_z w128 c.self.inside.rise (search rules))
+
 pub push_reserved-requires : goal.push_reserved-requires
 push_reserved-requires c =
     let e = c.self.inside in
@@ -25,34 +28,22 @@ push_reserved-requires c =
     at) (search rules) in
     omega (arith, room, c.self.invariant.room, e.members.ok)
 
-base_is : (c : After-push_reserved) → to_z w128 (of_z w128 (to_z w128 (of_z w128 c.from.result) -ℤ to_z w128 (of_z w128 c.self.inside.rise))) ≡
-    c.args.total -ℤ c.self.inside.rise
-base_is c =
-    wrapped_difference c.from.result c.self.inside.rise (search rules) (search rules) (search rules)
-    ∙ ap (λ z. z -ℤ c.self.inside.rise) (c.from.ensures ∙ to_z-of_z w64 c.args.total (search rules))
-
-abbrev kept_with : ℕ → ℤ → Kept
-kept_with leaf base = record { leaf = leaf; base = base }
-
 -- what is kept of the new member
-abbrev written : After-push_reserved → Kept
-written c = record { leaf = c.args.leaf; base = to_z w128 (of_z w128 (to_z w128 (of_z w128 c.from.result) -ℤ to_z w128 (of_z w128 c.self.inside.rise))) }
-
 abbrev kept : After-push_reserved → Kept
 kept c = record { leaf = c.args.leaf; base = c.args.total -ℤ c.self.inside.rise }
 
-written_is : (c : After-push_reserved) → written c ≡ kept c
-written_is c = ap (kept_with c.args.leaf) (base_is c)
+kept_is : (c : After-push_reserved) → c.kept_of-member.result ≡ kept c
+kept_is c = rw (← to_z-of_z w64 c.args.total (search rules), ← to_z-of_z w128 c.self.inside.rise (search rules)) c.kept_of-member.ensures.kept
 
 items_are : (c : After-push_reserved) → c.push_reserved.new.self.items ≡ c.self.inside.members.items ++ kept c ∷ []
-items_are c = grind (arith, written_is, c.push_reserved.ensures.items)
+items_are c = grind (arith, kept_is, c.push_reserved.ensures.items)
 
 nearest_are : (c : After-push_reserved) → (with_items c.self.inside.nearest c.take_nearer.new.nearest).items ≡ c.take_nearer.new.nearest
 nearest_are c = grind (arith, with_items_is, c.take_nearer.auto.nearest, c.deref_mut.ensures.len)
 
 taken : (c : After-push_reserved) → (v : ℕ) → v < c.self.inside.costs.size →
     IsTakenAt c.self.inside.costs (kept c) c.is_empty-first.result v (nearest_at c.self.inside.nearest.items v) (nearest_at c.take_nearer.new.nearest v)
-taken c v within = grind (arith, written_is, c.deref_mut.ensures.value, c.take_nearer.ensures.taken, within)
+taken c v within = grind (arith, kept_is, c.deref_mut.ensures.value, c.take_nearer.ensures.taken, within)
 
 pub invariant_of-self : goal.invariant_of-self
 invariant_of-self c =
