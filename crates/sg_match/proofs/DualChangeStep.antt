@@ -381,23 +381,22 @@ pub record IsChangingDuals (s : State) (root : ℕ) (event : Event) (amount give
   pub changed : IsDualChange s root event (nat_of amount) (nat_of given)
 
 -- what a round has found, as one record
-pub IsChangingDuals-made : (s now : State) (root : ℕ) (event : Event) (near reached : List TreeEdge) (amount most delta given : ℤ) → IsEngine s → s ≡ now →
-    now.root ≡ Some root → near ≡ s.edges → reached ≡ s.edges → amount ≡ pos (nat_of amount) → most ≡ amount → given ≡ delta →
-    IsNearest s.family (cost s.table) root near (nat_of amount) event → IsLeastDual s.family reached (length reached) most delta →
+pub IsChangingDuals-made : (s now : State) (root : ℕ) (event : Event) (edges : List TreeEdge) (amount most delta given : ℤ) → IsEngine s → s ≡ now →
+    now.root ≡ Some root → edges ≡ s.edges → amount ≡ pos (nat_of amount) → most ≡ amount → given ≡ delta →
+    IsNearest s.family (cost s.table) root edges (nat_of amount) event → IsLeastDual s.family edges (length edges) most delta →
     IsChangingDuals s root event amount given
-IsChangingDuals-made s now root event near reached amount most delta given engine same rooted same_near same_reached whole same_most same_delta nearest
-    least =
+IsChangingDuals-made s now root event edges amount most delta given engine same rooted same_edges whole same_most same_delta nearest least =
     let all : IsLeastDual s.family s.edges (length s.edges) (pos (nat_of amount)) given =
     subst (λ z. IsLeastDual s.family s.edges (length s.edges) (pos (nat_of amount)) z) (sym same_delta)
     (subst (λ z. IsLeastDual s.family s.edges (length s.edges) z delta) (same_most ∙ whole)
-    (subst (λ xs. IsLeastDual s.family xs (length xs) most delta) same_reached least)) in
+    (subst (λ xs. IsLeastDual s.family xs (length xs) most delta) same_edges least)) in
     let is = whole_least s.family s.edges (length s.edges) (nat_of amount) given all in
     record {
       engine = engine;
       rooted = ap (λ (x : State). x.root) same ∙ rooted;
       whole = is;
       changed = record {
-        near = subst (λ xs. IsNearest s.family (cost s.table) root xs (nat_of amount) event) same_near nearest;
+        near = subst (λ xs. IsNearest s.family (cost s.table) root xs (nat_of amount) event) same_edges nearest;
         least = subst (λ z. IsLeastDual s.family s.edges (length s.edges) (pos (nat_of amount)) z) is all;
       };
     }

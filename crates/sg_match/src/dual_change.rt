@@ -26,29 +26,35 @@ pub struct Change {
     pub event: Event,
 }
 
+// An alternating tree: its root, and its edges from there on.
+#[derive(Drop)]
+pub struct Tree<'a> {
+    pub root: usize,
+    pub edges: &'a [TreeEdge],
+}
+
 // By how much the tree's duals may rise before the next slack is 0, and whose slack that is. The tables
 // are room to list the leaves in.
 pub fn nearest(
     arena: &Arena,
     near: &mut Near,
-    root: usize,
-    edges: &[TreeEdge],
+    tree: &Tree,
     tops: &mut [usize],
     totals: &mut [i64],
     marks: &mut [Mark],
 ) -> Change
     requires metric { IsMetric near.old.table }
     requires leaves { leaf_count arena.now ≡ near.old.table.size }
-    requires stands { HasNearest arena.now (cost near.old.table) root edges.now }
+    requires stands { HasNearest arena.now (cost near.old.table) tree.now.root tree.now.edges.now }
     requires tops { length tops.old ≡ leaf_count arena.now }
     requires totals { length totals.old ≡ leaf_count arena.now }
     requires marks { length marks.old ≡ leaf_count arena.now }
     ensures whole { result.amount ≡ pos (nat_of result.amount) }
-    ensures nearest { IsNearest arena.now (cost near.old.table) root edges.now (nat_of result.amount) result.event }
+    ensures nearest { IsNearest arena.now (cost near.old.table) tree.now.root tree.now.edges.now (nat_of result.amount) result.event }
     ensures table { near.new.table ≡ near.old.table }
 {
     list_leaves(arena, tops, totals);
-    mark_leaves(root, edges, tops, marks);
+    mark_leaves(tree.root, tree.edges, tops, marks);
     near.follow(totals, marks);
     add_outer(near, totals, marks);
     let free = near.least(totals, tops, marks);
@@ -122,25 +128,24 @@ fn scan(costs: &Costs, free: Option<Pair>, totals: &[i64], tops: &[usize], marks
 // Raises the duals of the tree's outer tops and lowers those of its inner ones.
 pub fn raise_tree<L: Ledger>(
     arena: &mut Arena,
-    root: usize,
-    edges: &[TreeEdge],
+    tree: &Tree,
     outer: &mut Vec<usize>,
     inner: &mut Vec<usize>,
     delta: i64,
     steps: &mut Steps<L>,
 )
-    requires outer { length edges.now + 1 ≤ vec_capacity outer.old }
-    requires inner { length edges.now ≤ vec_capacity inner.old }
+    requires outer { length tree.now.edges.now + 1 ≤ vec_capacity outer.old }
+    requires inner { length tree.now.edges.now ≤ vec_capacity inner.old }
     requires whole { pos 0 ≤ℤ delta }
-    requires tops { CanRaise arena.old (outers root edges.now) (inners edges.now) (nat_of delta) }
-    ensures raised { arena.new ≡ raised arena.old (outers root edges.now) (inners edges.now) (nat_of delta) }
+    requires tops { CanRaise arena.old (outers tree.now.root tree.now.edges.now) (inners tree.now.edges.now) (nat_of delta) }
+    ensures raised { arena.new ≡ raised arena.old (outers tree.now.root tree.now.edges.now) (inners tree.now.edges.now) (nat_of delta) }
     ensures outer_room { vec_capacity outer.new ≡ vec_capacity outer.old }
     ensures inner_room { vec_capacity inner.new ≡ vec_capacity inner.old }
     ensures counted { steps.new ≤ steps.old + 1 }
     ensures alike { steps.new + arena.old.steps ≡ steps.old + arena.new.steps }
 {
     if delta > 0 {
-        list_tree(root, edges, outer, inner);
+        list_tree(tree.root, tree.edges, outer, inner);
         arena.raise(outer, inner, delta, steps);
     }
 }
@@ -163,26 +168,28 @@ impl Engine {
         ensures alike { steps.new + self.old.family.steps ≡ steps.old + self.new.family.steps }
         ensures next { IsNext self.new root result }
     {
+        let tree = Tree {
+            root,
+            edges: &self.edges,
+        };
         let near = nearest(
             &self.arena,
             &mut self.near,
-            root,
-            &self.edges,
+            &tree,
             &mut self.tops,
             &mut self.totals,
             &mut self.marks,
         );
-        let delta = least_dual(&self.arena, &self.edges, near.amount);
+        let delta = least_dual(&self.arena, tree.edges, near.amount);
         raise_tree(
             &mut self.arena,
-            root,
-            &self.edges,
+            &tree,
             &mut self.outer,
             &mut self.inner,
             delta,
             steps,
         );
-        match least_inner_zero(&self.arena, &self.edges) {
+        match least_inner_zero(&self.arena, tree.edges) {
             Some(node) => Event::InnerZero { node },
             None => near.event,
         }

@@ -40,15 +40,15 @@ changing : (g : Over) (c : After-least_dual-delta g) →
 changing g c =
     let amount = c.nearest-near.result.amount in
     let delta = c.least_dual-delta.result in
-    IsChangingDuals-made (state_of c.self.inside) c.args.self.now c.args.root c.nearest-near.result.event c.deref.result.now c.deref-2.result.now amount
-    (given amount) delta (given delta) c.self.invariant.engine c.self.view_is c.requires.root c.deref.ensures.value c.deref-2.ensures.value
+    IsChangingDuals-made (state_of c.self.inside) c.args.self.now c.args.root c.nearest-near.result.event c.deref.result.now amount
+    (given amount) delta (given delta) c.self.invariant.engine c.self.view_is c.requires.root c.deref.ensures.value
     c.nearest-near.ensures.whole (to_z-of_z w64 amount (search rules)) (to_z-of_z w64 delta (search rules)) c.nearest-near.ensures.nearest
     (record { within = c.least_dual-delta.ensures.most; duals = c.least_dual-delta.ensures.duals; one = c.least_dual-delta.ensures.one })
 
 made : (g : Over) (c : After-raise_tree g) → c.raise_tree.new.arena ≡ raised c.self.inside.arena (outers c.args.root c.self.inside.edges.items)
     (inners c.self.inside.edges.items) (nat_of (given c.least_dual-delta.result))
 made g c = c.raise_tree.ensures.raised ∙
-    ap (λ xs. raised c.self.inside.arena (outers c.args.root xs) (inners xs) (nat_of (given c.least_dual-delta.result))) c.deref-3.ensures.value
+    ap (λ xs. raised c.self.inside.arena (outers c.args.root xs) (inners xs) (nat_of (given c.least_dual-delta.result))) c.deref.ensures.value
 
 pub nearest-near-requires-clause-stands : goal.nearest-near-requires-clause-stands
 nearest-near-requires-clause-stands g c =
@@ -59,7 +59,7 @@ nearest-near-requires-clause-stands g c =
 pub least_dual-delta-requires : goal.least_dual-delta-requires
 least_dual-delta-requires g c =
     let s = state_of c.self.inside in
-    subst (λ (xs : List TreeEdge). (i : ℕ) → i < length xs → IsAlive s.family (tree_edge_at xs i).inner) (sym c.deref-2.ensures.value)
+    subst (λ (xs : List TreeEdge). (i : ℕ) → i < length xs → IsAlive s.family (tree_edge_at xs i).inner) (sym c.deref.ensures.value)
     (inner_alive s c.self.invariant.engine c.args.root (rooted g (goal.at.least_dual-delta-requires g c).After-self))
 
 fits : (g : Over) (c : After-self g) → length c.self.inside.edges.items < length c.self.inside.arena.nodes
@@ -67,11 +67,11 @@ fits g c = let s = state_of c.self.inside in edge_room s.family c.args.root s.ed
 
 pub raise_tree-requires-clause-outer : goal.raise_tree-requires-clause-outer
 raise_tree-requires-clause-outer g c =
-    omega (arith, fits g (goal.at.raise_tree-requires-clause-outer g c).After-self, c.self.invariant.outer, ap (λ xs. length xs) c.deref-3.ensures.value)
+    omega (arith, fits g (goal.at.raise_tree-requires-clause-outer g c).After-self, c.self.invariant.outer, ap (λ xs. length xs) c.deref.ensures.value)
 
 pub raise_tree-requires-clause-inner : goal.raise_tree-requires-clause-inner
 raise_tree-requires-clause-inner g c =
-    omega (arith, fits g (goal.at.raise_tree-requires-clause-inner g c).After-self, c.self.invariant.inner, ap (λ xs. length xs) c.deref-3.ensures.value)
+    omega (arith, fits g (goal.at.raise_tree-requires-clause-inner g c).After-self, c.self.invariant.inner, ap (λ xs. length xs) c.deref.ensures.value)
 
 pub raise_tree-requires-clause-whole : goal.raise_tree-requires-clause-whole
 raise_tree-requires-clause-whole g c = let p = changing g (goal.at.raise_tree-requires-clause-whole g c).After-least_dual-delta in omega (arith, ints, p.whole)
@@ -79,14 +79,14 @@ raise_tree-requires-clause-whole g c = let p = changing g (goal.at.raise_tree-re
 pub raise_tree-requires-clause-tops : goal.raise_tree-requires-clause-tops
 raise_tree-requires-clause-tops g c =
     let p = changing g (goal.at.raise_tree-requires-clause-tops g c).After-least_dual-delta in
-    subst (λ xs. CanRaise c.self.inside.arena (outers c.args.root xs) (inners xs) (nat_of (given c.least_dual-delta.result))) (sym c.deref-3.ensures.value)
+    subst (λ xs. CanRaise c.self.inside.arena (outers c.args.root xs) (inners xs) (nat_of (given c.least_dual-delta.result))) (sym c.deref.ensures.value)
     (changed_can p)
 
 pub least_inner_zero-requires : goal.least_inner_zero-requires
 least_inner_zero-requires g c =
     let s = state_of c.self.inside in
     let p = changing g (goal.at.least_inner_zero-requires g c).After-least_dual-delta in
-    subst (λ (xs : List TreeEdge). (i : ℕ) → i < length xs → IsAlive c.raise_tree.new.arena (tree_edge_at xs i).inner) (sym c.deref-4.ensures.value)
+    subst (λ (xs : List TreeEdge). (i : ℕ) → i < length xs → IsAlive c.raise_tree.new.arena (tree_edge_at xs i).inner) (sym c.deref.ensures.value)
     (subst (λ a. (i : ℕ) → i < length s.edges → IsAlive a (tree_edge_at s.edges i).inner)
     (sym (made g (goal.at.least_inner_zero-requires g c).After-raise_tree))
     (inner_alive (after s c.args.root (nat_of (given c.least_dual-delta.result)) p.engine p.rooted (change p)) (changed_engine p) c.args.root p.rooted))
@@ -149,10 +149,10 @@ returns-clause-next g c =
     elim c.match-least_inner_zero.branch [
       | in-Some w ↦
           subst (λ x. IsNext (seen e c.raise_tree.new.arena costs) c.args.root x) (sym w.result-is)
-          (subst (λ xs. IsLeastInnerZero c.raise_tree.new.arena xs w.in-Some.node) c.deref-4.ensures.value w.in-Some.ensures.some)
+          (subst (λ xs. IsLeastInnerZero c.raise_tree.new.arena xs w.in-Some.node) c.deref.ensures.value w.in-Some.ensures.some)
       | in-None w ↦
           let none = subst (λ a. (node : ℕ) → IsInnerZero a edges node → ⊥) is
-          (subst (λ xs. (node : ℕ) → IsInnerZero c.raise_tree.new.arena xs node → ⊥) c.deref-4.ensures.value w.in-None.ensures.none) in
+          (subst (λ xs. (node : ℕ) → IsInnerZero c.raise_tree.new.arena xs node → ⊥) c.deref.ensures.value w.in-None.ensures.none) in
           subst (λ x. IsNext (seen e c.raise_tree.new.arena costs) c.args.root x) (sym w.result-is)
           (subst (λ t. IsNext (seen e c.raise_tree.new.arena t) c.args.root c.nearest-near.result.event) (sym (same_table g at.After-raise_tree))
           (subst (λ a. IsNext (seen e a e.near.table) c.args.root c.nearest-near.result.event) (sym is)

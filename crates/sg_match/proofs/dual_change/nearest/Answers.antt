@@ -10,11 +10,11 @@ use Rattle.sg_slack.specs.Table.{Table}
 use Rattle.sg_match.proofs.dual_change.nearest.Goals as goal
 use Rattle.sg_match.proofs.dual_change.nearest.Goals.{After-costs, After-mark_leaves}
 
-marked : (c : After-mark_leaves) → AreRightMarks c.args.arena.now c.args.root c.args.edges.now c.mark_leaves.new.marks
+marked : (c : After-mark_leaves) → AreRightMarks c.args.arena.now c.args.tree.now.root c.args.tree.now.edges.now c.mark_leaves.new.marks
 marked c =
     let can = c.requires.stands in
     let listed = c.list_leaves.ensures in
-    IsMarked-stands c.args.arena.now c.args.root c.args.edges.now c.list_leaves.new.tops c.list_leaves.new.totals c.mark_leaves.new.marks
+    IsMarked-stands c.args.arena.now c.args.tree.now.root c.args.tree.now.edges.now c.list_leaves.new.tops c.list_leaves.new.totals c.mark_leaves.new.marks
     can.feasible.family can.shape listed (c.mark_leaves.ensures.count ∙ listed.top_count)
     (λ leaf low. c.mark_leaves.ensures.marked leaf (omega (arith, low, listed.top_count)))
 
@@ -25,7 +25,7 @@ same_table c = c.costs.ensures ∙ c.add_outer.ensures.table ∙ c.follow.ensure
 fit : (c : After-mark_leaves) → SumsFit c.args.near.now.table c.list_leaves.new.totals
 fit c =
     let can = c.requires.stands in
-    SumsFit-listed c.args.arena.now c.args.near.now.table c.args.root c.args.edges.now c.list_leaves.new.tops c.list_leaves.new.totals
+    SumsFit-listed c.args.arena.now c.args.near.now.table c.args.tree.now.root c.args.tree.now.edges.now c.list_leaves.new.tops c.list_leaves.new.totals
     c.mark_leaves.new.marks c.requires.metric c.requires.leaves can.feasible can.shape c.list_leaves.ensures (marked c)
 
 pub least-free-requires-clause-fits : goal.least-free-requires-clause-fits
@@ -50,9 +50,9 @@ scan-requires-clause-can c =
     let can = c.requires.stands in
     let at = goal.at.scan-requires-clause-can c in
     subst (λ (t : Table). CanScan t c.list_leaves.new.tops c.list_leaves.new.totals c.mark_leaves.new.marks) (sym (same_table at.After-costs))
-    (CanScan-listed f c.args.near.now.table c.args.root c.args.edges.now c.list_leaves.new.tops c.list_leaves.new.totals c.mark_leaves.new.marks
-    c.requires.metric c.requires.leaves can.feasible can.shape c.list_leaves.ensures (marked at.After-mark_leaves) can.alike can.free.0 can.free.1
-    can.free.2 can.free.3 can.free.4)
+    (CanScan-listed f c.args.near.now.table c.args.tree.now.root c.args.tree.now.edges.now c.list_leaves.new.tops c.list_leaves.new.totals
+    c.mark_leaves.new.marks c.requires.metric c.requires.leaves can.feasible can.shape c.list_leaves.ensures (marked at.After-mark_leaves) can.alike
+    can.free.0 can.free.1 can.free.2 can.free.3 can.free.4)
 
 pub returns-clause-nearest : goal.returns-clause-nearest
 returns-clause-nearest c =
@@ -61,6 +61,6 @@ returns-clause-nearest c =
     let at = goal.at.returns-clause-nearest c in
     let scanned = subst (λ (t : Table). IsScanned t c.list_leaves.new.tops c.list_leaves.new.totals c.mark_leaves.new.marks (nat_of c.scan.result.amount)
     c.scan.result.event) (same_table at.After-costs) c.scan.ensures.scanned in
-    IsNearest-scanned f c.args.near.now.table c.args.root c.args.edges.now c.list_leaves.new.tops c.list_leaves.new.totals c.mark_leaves.new.marks
-    c.requires.metric c.requires.leaves can.feasible can.shape c.list_leaves.ensures (marked at.After-mark_leaves)
+    IsNearest-scanned f c.args.near.now.table c.args.tree.now.root c.args.tree.now.edges.now c.list_leaves.new.tops c.list_leaves.new.totals
+    c.mark_leaves.new.marks c.requires.metric c.requires.leaves can.feasible can.shape c.list_leaves.ensures (marked at.After-mark_leaves)
     (nat_of c.scan.result.amount) c.scan.result.event scanned

@@ -10,7 +10,7 @@ use Rattle.sg_match.specs.Tree.{inners, outers}
 pub returns-else-delta-gt0-clause-raised : goal.returns-else-delta-gt0-clause-raised
 returns-else-delta-gt0-clause-raised g c =
     let f = c.args.arena.now in
-    let outer = outers c.args.root c.args.edges.now in
-    let inner = inners c.args.edges.now in
+    let outer = outers c.args.tree.now.root c.args.tree.now.edges.now in
+    let inner = inners c.args.tree.now.edges.now in
     let none : c.args.delta ≡ pos 0 = omega (arith, ints) in
     sym (ap (λ z. raised f outer inner (nat_of z)) none ∙ raised-none f outer inner)
