@@ -1,4 +1,5 @@
 ghost use Rattle.std.specs.Prelude.{◌≡◌, ◌≤◌, ◌+◌, ◌*◌, ◌^◌, [], IfOk, None, length, replicate, vec_capacity};
+ghost use Rattle.sg_arena.specs.Changes.{OnlyLeaves};
 ghost use Rattle.sg_arena.specs.Family.{leaf_count};
 
 use super::mates::derive_mates;
@@ -28,6 +29,35 @@ fn no_pairs(alloc: Global, room: usize) -> Result<Vec<Option<Edge>>, NoMemory>
     ensures { IfOk result (λ pairs. pairs.items ≡ replicate room None) }
 {
     Ok(vec![in alloc; None; room]?)
+}
+
+// An arena of leaves alone, no pair under each of its names, and the names of its leaves.
+#[derive(Drop)]
+struct Alone {
+    arena: Arena,
+    pairs: Vec<Option<Edge>>,
+    exposed: Vec<usize>,
+}
+
+// So many leaves, none of which has a pair.
+fn leaves_alone(alloc: Global, k: u32) -> Result<Alone, NoMemory>
+    requires { k ≤ 2 ^ 24 }
+    ensures leaves { IfOk result (λ x. leaf_count x.arena ≡ k) }
+    ensures alone { IfOk result (λ x. OnlyLeaves x.arena) }
+    ensures fresh { IfOk result (λ x. x.arena.steps ≡ 0) }
+    ensures pairs { IfOk result (λ x. x.pairs.items ≡ replicate (length x.arena.nodes) None) }
+    ensures exposed { IfOk result (λ x. x.exposed.items ≡ x.arena.leaf_nodes) }
+    ensures room { IfOk result (λ x. length x.arena.nodes ≤ vec_capacity x.exposed) }
+{
+    let arena = Arena::open(alloc, k)?;
+    let room = arena.room();
+    let pairs = no_pairs(alloc, room)?;
+    let exposed = leaf_names(alloc, &arena, k, room)?;
+    Ok(Alone {
+        arena,
+        pairs,
+        exposed,
+    })
 }
 
 // Lists that a step fills.
@@ -113,19 +143,16 @@ impl Engine {
         ensures fresh { IfOk result (λ e. e.family.steps ≡ 0) }
         ensures left { IfOk result (λ e. steps_left e + costs.size ≡ 2 * costs.size * costs.size) }
     {
-        let near = Near::open(alloc, costs)?;
-        let k = near.costs().size();
-        let arena = Arena::open(alloc, k)?;
-        let room = arena.room();
-        let pairs = no_pairs(alloc, room)?;
-        let exposed = leaf_names(alloc, &arena, k, room)?;
-        let lists = empty_lists(alloc, room)?;
+        let k = costs.size();
         let tables = tables_of(alloc, k)?;
+        let alone = leaves_alone(alloc, k)?;
+        let lists = empty_lists(alloc, alone.arena.room())?;
+        let near = Near::open(alloc, costs)?;
         Ok(Engine {
             near,
-            arena,
-            pairs,
-            exposed,
+            arena: alone.arena,
+            pairs: alone.pairs,
+            exposed: alone.exposed,
             root: None,
             edges: lists.edges,
             tops: tables.tops,
