@@ -45,8 +45,8 @@ impl<'a, L: Limit> Engine<'a, L> {
         self.meet(Contact { own, other })
     }
 
-    /// A region takes a node, reached from a terminal.
-    pub fn take(&mut self, region: u32, node: u32, terminal: u32) {
+    // A region takes a node, reached from a terminal.
+    pub(super) fn take(&mut self, region: u32, node: u32, terminal: u32) {
         let radius = self.forest.radius(region, self.clock.now());
         let held = Held {
             region,
@@ -169,8 +169,8 @@ impl<'a, L: Limit> Engine<'a, L> {
         self.run_by_method(1)
     }
 
-    /// Goes on until no tree is left. False if that did not come about within the work allowed.
-    pub fn go_on(&mut self) -> Result<bool, NoMemory> {
+    // Goes on until no tree is left. False if that did not come about within the work allowed.
+    pub(super) fn go_on(&mut self) -> Result<bool, NoMemory> {
         self.go_on_until(NEVER)
     }
 

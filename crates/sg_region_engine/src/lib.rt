@@ -12,8 +12,9 @@
 //! of the regions (`sg_forest`), and the cover of the nodes, the clock and the hubs' heaps
 //! (`sg_growth`). The one rule between them: if an outer region approaches something over an arc, an
 //! event waits at this arc or at its reverse, no later than the contact. The event of a hub is that of
-//! its soonest arc, and the soonest of the arcs from one region to a hub stands for all. The fields are
-//! open to `sg_repairs`, which takes finished regions apart and lets what is left grow on.
+//! its soonest arc, and the soonest of the arcs from one region to a hub stands for all. Its
+//! fields are the engine's own. `apart` has what `sg_repairs` may do to an engine at rest, which takes
+//! finished regions apart and lets what is left grow on.
 //!
 //! `wake` enters events, `steps` has the steps of the method, `rests` those of the first half of a run,
 //! `open_hubs` those at nodes of high degree until no tree is left, `slices` the choice of the trees that grow
@@ -25,6 +26,7 @@
 ghost use Rattle.std.specs.Prelude.{◌≤◌};
 ghost use Rattle.sg_forest.specs.Counts.{event_limit, growth_limit};
 
+mod apart;
 mod bare;
 mod events;
 mod finish;
@@ -36,11 +38,12 @@ mod start;
 mod steps;
 mod wake;
 
+pub use apart::Parts;
 pub use finish::Exit;
 pub use lists::Lists;
 use sg_forest::{Allowance, Forest, Growth, Limit, Link, Reach, Role, Work};
 use sg_growth::{Adjacency, Arc, Clock, Cover, Held, Hubs, NEVER, reverse};
-pub use slices::Batches;
+use slices::Batches;
 pub use start::HeadStart;
 use std::alloc::{AllocError, Global};
 
@@ -89,41 +92,41 @@ struct Sight {
 /// A region has a name: below the number of terminals that of its terminal, all others are blossoms.
 #[derive(Drop)]
 pub struct Engine<'a, L: Limit> {
-    /// The allocator of all lists.
-    pub alloc: Global,
-    /// The arcs between the nodes, each edge with two darts.
-    pub arcs: &'a Adjacency,
-    /// The nodes that are terminals; region `t` is that of terminal `t`.
-    pub terminals: &'a [u32],
-    /// Which region took each node, and at which radius.
-    pub cover: Cover,
-    /// The regions, what they are parts of, their radii, and the trees.
-    pub forest: Forest<L>,
-    /// The arcs at nodes of high degree, by their times.
-    pub hubs: Hubs,
-    /// The time, and the events that wait.
-    pub clock: Clock,
-    /// What was done, against what is allowed.
-    pub work: Work<L>,
-    /// Whether a tree ends with its first odd cycle.
-    pub is_first: bool,
-    /// Whether hubs are open: no region covers one, and a tree that comes to one ends there.
-    pub is_open: bool,
-    /// How terminals grow before events are entered. Not at all at first.
-    pub head_start: HeadStart,
-    /// Whether trees grow in slices of time.
-    pub is_sliced: bool,
-    /// The trees that wait for their batch.
-    pub batches: Batches,
-    /// How many cycles of the first half, or trees that wait for their batch, are at rest.
-    pub rests: u32,
-    /// How many trees there are, with what is at rest. Where hubs are open, what is paired with one is not among
-    /// them.
-    pub unpaired: u32,
-    /// A cycle: a list that is used again.
-    pub cycle: Vec<Link>,
-    /// Regions that were inner: a list that is used again.
-    pub inner: Vec<u32>,
+    // The allocator of all lists.
+    alloc: Global,
+    // The arcs between the nodes, each edge with two darts.
+    arcs: &'a Adjacency,
+    // The nodes that are terminals; region `t` is that of terminal `t`.
+    terminals: &'a [u32],
+    // Which region took each node, and at which radius.
+    cover: Cover,
+    // The regions, what they are parts of, their radii, and the trees.
+    forest: Forest<L>,
+    // The arcs at nodes of high degree, by their times.
+    hubs: Hubs,
+    // The time, and the events that wait.
+    clock: Clock,
+    // What was done, against what is allowed.
+    work: Work<L>,
+    // Whether a tree ends with its first odd cycle.
+    is_first: bool,
+    // Whether hubs are open: no region covers one, and a tree that comes to one ends there.
+    is_open: bool,
+    // How terminals grow before events are entered. Not at all at first.
+    head_start: HeadStart,
+    // Whether trees grow in slices of time.
+    is_sliced: bool,
+    // The trees that wait for their batch.
+    batches: Batches,
+    // How many cycles of the first half, or trees that wait for their batch, are at rest.
+    rests: u32,
+    // How many trees there are, with what is at rest. Where hubs are open, what is paired with one is not among
+    // them.
+    unpaired: u32,
+    // A cycle: a list that is used again.
+    cycle: Vec<Link>,
+    // Regions that were inner: a list that is used again.
+    inner: Vec<u32>,
 }
 
 // How many regions there is room for at first.
@@ -183,6 +186,11 @@ impl<'a, L: Limit> Engine<'a, L> {
             cycle: lists.cycle,
             inner: lists.inner,
         })
+    }
+
+    /// How terminals grow before events are entered. Not at all where this is not called before a run.
+    pub fn set_head_start(&mut self, head_start: HeadStart) {
+        self.head_start = head_start;
     }
 
     /// The steps that were taken since the engine was made.

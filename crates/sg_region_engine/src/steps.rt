@@ -197,8 +197,8 @@ impl<'a, L: Limit> Engine<'a, L> {
         Ok(())
     }
 
-    /// The rows of a blossom's parts are rows of their own again.
-    pub fn cut_rows(&mut self, blossom: u32) {
+    // The rows of a blossom's parts are rows of their own again.
+    pub(super) fn cut_rows(&mut self, blossom: u32) {
         let mut part = self.forest.cycles().first(blossom);
         for _ in 0..self.forest.cycles().size(blossom) {
             self.cover.cut(part);

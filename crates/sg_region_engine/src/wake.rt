@@ -194,8 +194,8 @@ impl<'a, L: Limit> Engine<'a, L> {
         })
     }
 
-    /// Enters the events of the arcs that leave the nodes of a region in an outer top.
-    pub fn wake_region(&mut self, name: u32, top: u32) -> Result<(), NoMemory> {
+    // Enters the events of the arcs that leave the nodes of a region in an outer top.
+    pub(super) fn wake_region(&mut self, name: u32, top: u32) -> Result<(), NoMemory> {
         let end = self.cover.end(name);
         let mut next = self.cover.first(name);
         for _ in 0..self.arcs.nodes() {

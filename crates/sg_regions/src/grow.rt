@@ -191,7 +191,7 @@ fn run_over<L: Limit>(
     let keeps = layout.keeps();
     let arcs = &layout.arcs;
     let mut engine = Engine::<L>::over(alloc, lists, arcs, terminals, method, allowed)?;
-    engine.head_start = layout.head_start(method);
+    engine.set_head_start(layout.head_start(method));
     let found = run_to_end(&mut engine, keeps)?;
     let growth = engine.growth();
     let lists = lists_of(engine, has_hub, keeps && found.is_some());

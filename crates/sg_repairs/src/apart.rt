@@ -2,11 +2,10 @@
 //
 // The parts of a blossom that stay are paired along its cycle, each with its neighbour. What is left
 // over has no mate: it becomes the root of a tree, and grows.
-use super::parts::allow_work;
+use super::parts::work_for;
 use super::{Engine, NoMemory};
 use sg_forest::Link;
 use sg_region_engine::Exit;
-use sg_slots::number;
 
 // A node, its terminal that is none any more, and the one that is new there.
 #[derive(Clone, Copy)]
@@ -19,23 +18,15 @@ pub struct Ending {
 // Takes all regions over two nodes apart, and lets what is left over grow until each terminal has a
 // mate, but for those that are gone. False if that did not come about within the work allowed.
 pub fn repair(engine: &mut Engine, ends: [Ending; 2]) -> Result<bool, NoMemory> {
-    let mut open = Vec::new(engine.alloc);
+    let mut open = Vec::new(engine.alloc());
     take_apart(engine, ends, &mut open)?;
     for end in ends {
         if let Some(terminal) = end.new {
             plant_again(engine, end.node, terminal, &mut open)?;
         }
     }
-    engine.unpaired = number(open.len());
-    allow_work(engine);
-    for exit in &open {
-        let now = engine.clock.now();
-        engine.forest.make_root(exit.region, exit.terminal, now);
-    }
-    for exit in &open {
-        engine.wake_region(exit.region, exit.region)?;
-    }
-    engine.go_on()
+    let work = work_for(&open, engine.arcs());
+    engine.grow_from(&open, work)
 }
 
 // Takes all regions over two nodes apart, and lists those that have no mate any more.
@@ -45,9 +36,9 @@ fn take_apart(
     open: &mut Vec<Exit>,
 ) -> Result<(), NoMemory> {
     let [one, other] = ends;
-    let mut first = Vec::new(engine.alloc);
-    let mut second = Vec::new(engine.alloc);
-    engine.forest.meet_none();
+    let mut first = Vec::new(engine.alloc());
+    let mut second = Vec::new(engine.alloc());
+    engine.meet_none();
     list_over(engine, one.node, &mut first)?;
     list_over(engine, other.node, &mut second)?;
     leave_mate(engine, &first, open)?;
@@ -63,19 +54,19 @@ fn take_apart(
 
 // Meets the regions over a node that were not met, and lists them, each before its parts.
 fn list_over(engine: &mut Engine, node: u32, list: &mut Vec<u32>) -> Result<(), NoMemory> {
-    let mut here = match engine.cover.held(node) {
+    let mut here = match engine.cover().held(node) {
         Some(held) => Some(held.region),
         None => None,
     };
-    for _ in 0..engine.forest.len() {
+    for _ in 0..engine.forest().len() {
         let Some(name) = here else {
             break;
         };
-        if engine.forest.meet_again(name) {
+        if engine.meet_again(name) {
             break;
         }
         list.push(name)?;
-        here = engine.forest.cycles().parent(name).number();
+        here = engine.forest().cycles().parent(name).number();
     }
     list.reverse();
     Ok(())
@@ -86,13 +77,13 @@ fn leave_mate(engine: &Engine, regions: &[u32], open: &mut Vec<Exit>) -> Result<
     let Some(name) = regions.first() else {
         return Ok(());
     };
-    if !engine.forest.cycles().parent(*name).is_none() {
+    if !engine.forest().cycles().parent(*name).is_none() {
         return Ok(());
     }
-    if let Some(pair) = engine.forest.pair(*name) {
+    if let Some(pair) = engine.forest().pair(*name) {
         let terminal = pair.other.terminal;
-        let region = engine.forest.top(terminal);
-        if !engine.forest.was_met(region) {
+        let region = engine.forest().top(terminal);
+        if !engine.forest().was_met(region) {
             open.push(Exit { region, terminal })?;
         }
     }
@@ -107,10 +98,8 @@ fn open_region(
     ends: [Ending; 2],
     open: &mut Vec<Exit>,
 ) -> Result<(), NoMemory> {
-    let size = engine.forest.cycles().size(name);
-    engine.cover.uncover(name);
-    engine.cut_rows(name);
-    engine.cover.close(name);
+    let size = engine.forest().cycles().size(name);
+    engine.uncover(name);
     if let Some(node) = engine.seed(name) {
         let [one, other] = ends;
         if one.gone == Some(name) || other.gone == Some(name) {
@@ -118,25 +107,22 @@ fn open_region(
         }
         return plant_again(engine, node, name, open);
     }
-    let mut cycle = Vec::new(engine.alloc);
+    let mut cycle = Vec::new(engine.alloc());
     let first = first_met(engine, name);
-    engine
-        .forest
-        .list_ahead(engine.forest.cycles().next(first), size, &mut cycle)?;
-    let now = engine.clock.now();
-    engine.forest.expand(name, now, &mut engine.work)?;
-    engine.forest.free_name(name)?;
+    let forest = engine.forest();
+    forest.list_ahead(forest.cycles().next(first), size, &mut cycle)?;
+    engine.open_blossom(name)?;
     pair_along(engine, &cycle, open)
 }
 
 // A part of a blossom that was met, if there is one; else any.
 fn first_met(engine: &Engine, blossom: u32) -> u32 {
-    let mut part = engine.forest.cycles().first(blossom);
-    for _ in 0..engine.forest.cycles().size(blossom) {
-        if engine.forest.was_met(part) {
+    let mut part = engine.forest().cycles().first(blossom);
+    for _ in 0..engine.forest().cycles().size(blossom) {
+        if engine.forest().was_met(part) {
             break;
         }
-        part = engine.forest.cycles().next(part);
+        part = engine.forest().cycles().next(part);
     }
     part
 }
@@ -146,13 +132,13 @@ fn first_met(engine: &Engine, blossom: u32) -> u32 {
 fn pair_along(engine: &mut Engine, way: &[Link], open: &mut Vec<Exit>) -> Result<(), NoMemory> {
     let mut left: Option<Link> = None;
     for link in way {
-        let stays = !engine.forest.was_met(link.child);
+        let stays = !engine.forest().was_met(link.child);
         match left {
             None if stays => left = Some(*link),
             None => {}
             Some(before) => {
                 if stays {
-                    engine.forest.pair_by(before.contact);
+                    engine.pair_by(before.contact);
                 } else {
                     open.push(exit_of(before))?;
                 }
@@ -176,9 +162,7 @@ fn plant_again(
     terminal: u32,
     open: &mut Vec<Exit>,
 ) -> Result<(), NoMemory> {
-    engine.forest.plant_as(terminal, engine.clock.now())?;
-    engine.cover.open(terminal)?;
-    engine.take(terminal, node, terminal);
+    engine.plant_as(terminal, node)?;
     open.push(Exit {
         region: terminal,
         terminal,

@@ -40,7 +40,7 @@ impl Changes {
                 places: Vec::new(alloc),
                 heights: Vec::new(alloc),
             },
-            ways: Ways::new(alloc, engine.arcs.nodes())?,
+            ways: Ways::new(alloc, engine.arcs().nodes())?,
             repair: 0,
             turned: vec![in alloc; 0u32; terminals]?,
             walked: vec![in alloc; 0u32; terminals]?,
@@ -53,7 +53,7 @@ impl Changes {
     fn find_heights(&mut self, engine: &Engine) -> Result<(), NoMemory> {
         list_order(engine, &mut self.order)?;
         self.ways.clear_heights();
-        for node in 0..number(engine.arcs.nodes()) {
+        for node in 0..number(engine.arcs().nodes()) {
             self.ways.add_height(height_of(engine, node, &self.order))?;
         }
         Ok(())

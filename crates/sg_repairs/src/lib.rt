@@ -6,9 +6,9 @@
 //!
 //! For the next engineer: nothing is promised of a repair. Callers have it judged by `sg_nest::proves`,
 //! and call a proved solver if there is no repair or the verdict is no. So each function here must only
-//! be safe and terminate. `parts` keeps the parts of an engine that outlive its arcs, `apart` takes
-//! finished regions apart, `order` puts them into an order and reads them off, `old_ways` has the walks
-//! between mates before any repair, and `changes` what a repair changes of them.
+//! be safe and terminate. `parts` keeps the finished regions to which an engine is put back, `apart` takes
+//! them apart, `order` puts them into an order and reads them off, `old_ways` has the walks between mates
+//! before any repair, and `changes` what a repair changes of them.
 #![tactic(auto)]
 
 mod apart;
@@ -24,6 +24,8 @@ use std::alloc::AllocError;
 
 // Of repairs no bound on the steps is asked.
 type Engine<'a> = sg_region_engine::Engine<'a, Unlimited>;
+
+type Parts = sg_region_engine::Parts<Unlimited>;
 
 /// The allocator had no memory left.
 pub type NoMemory = AllocError;

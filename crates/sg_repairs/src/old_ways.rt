@@ -56,7 +56,7 @@ impl OldWays {
         pairs: &[Pair],
         edges: usize,
     ) -> Result<Option<OldWays>, NoMemory> {
-        let mut ways = OldWays::empty(alloc, engine.terminals.len(), edges)?;
+        let mut ways = OldWays::empty(alloc, engine.terminals().len(), edges)?;
         if !ways.add_all(engine, changes, pairs)? {
             return Ok(None);
         }

@@ -17,10 +17,11 @@ pub struct Order {
 
 // The pairs of all terminals in tops that are not as they were.
 pub fn changed_pairs(engine: &Engine, base: &Base) -> Result<Vec<Pair>, NoMemory> {
-    let mut pairs = Vec::new(engine.alloc);
-    let mut open = Vec::new(engine.alloc);
-    for name in 0..number(engine.forest.len()) {
-        let is_top = engine.cover.is_open(name) && engine.forest.cycles().parent(name).is_none();
+    let mut pairs = Vec::new(engine.alloc());
+    let mut open = Vec::new(engine.alloc());
+    for name in 0..number(engine.forest().len()) {
+        let is_top = engine.cover().is_open(name)
+            && engine.forest().cycles().parent(name).is_none();
         if is_top && !is_paired_as_before(engine, name, base) {
             engine.pair_top(name, &mut pairs, &mut open)?;
             engine.pair_within(&mut pairs, &mut open)?;
@@ -31,10 +32,10 @@ pub fn changed_pairs(engine: &Engine, base: &Base) -> Result<Vec<Pair>, NoMemory
 
 // Whether a top was one in the base, paired by the same terminals.
 fn is_paired_as_before(engine: &Engine, name: u32, base: &Base) -> bool {
-    if !base.has(name, &engine.cover) || !base.forest.cycles().parent(name).is_none() {
+    if !base.has(name, engine.cover()) || !base.forest.cycles().parent(name).is_none() {
         return false;
     }
-    match (engine.forest.pair(name), base.forest.pair(name)) {
+    match (engine.forest().pair(name), base.forest.pair(name)) {
         (Some(pair), Some(before)) => {
             pair.own.terminal == before.own.terminal && pair.other.terminal == before.other.terminal
         }
@@ -46,33 +47,33 @@ fn is_paired_as_before(engine: &Engine, name: u32, base: &Base) -> bool {
 // Puts the regions into their order.
 pub fn list_order(engine: &Engine, order: &mut Order) -> Result<(), NoMemory> {
     order.names.clear();
-    for name in 0..number(engine.forest.len()) {
-        if engine.cover.is_open(name) && engine.forest.cycles().parent(name).is_none() {
+    for name in 0..number(engine.forest().len()) {
+        if engine.cover().is_open(name) && engine.forest().cycles().parent(name).is_none() {
             order.names.push(name)?;
         }
     }
-    for place in 0..engine.forest.len() {
+    for place in 0..engine.forest().len() {
         let Some(name) = entry(&order.names, number(place)) else {
             break;
         };
-        engine.forest.cycles().add_parts(name, &mut order.names)?;
+        engine.forest().cycles().add_parts(name, &mut order.names)?;
     }
     sum_heights(engine, order)
 }
 
 // Notes the place of each region and how high it is.
 fn sum_heights(engine: &Engine, order: &mut Order) -> Result<(), NoMemory> {
-    order.places.resize(engine.forest.len(), 0)?;
-    order.heights.resize(engine.forest.len(), 0)?;
+    order.places.resize(engine.forest().len(), 0)?;
+    order.heights.resize(engine.forest().len(), 0)?;
     let mut behind = number(order.names.len());
     for name in order.names.as_slice() {
         behind = behind.wrapping_sub(1);
         set_entry(&mut order.places, *name, behind);
-        let over = match engine.forest.cycles().parent(*name).number() {
+        let over = match engine.forest().cycles().parent(*name).number() {
             Some(parent) => entry(&order.heights, parent).unwrap_or(0),
             None => 0,
         };
-        let radius = engine.forest.radius(*name, engine.clock.now());
+        let radius = engine.forest().radius(*name, engine.now());
         set_entry(&mut order.heights, *name, over.wrapping_add(radius));
     }
     Ok(())
@@ -80,13 +81,13 @@ fn sum_heights(engine: &Engine, order: &mut Order) -> Result<(), NoMemory> {
 
 // The regions, parts before what they are parts of.
 pub fn regions_of(engine: &Engine, order: &Order) -> Result<Vec<Region>, NoMemory> {
-    let mut regions = Vec::with_capacity(engine.alloc, order.names.len())?;
+    let mut regions = Vec::with_capacity(engine.alloc(), order.names.len())?;
     for name in order.names.iter().rev() {
-        let parent = match engine.forest.cycles().parent(*name).number() {
+        let parent = match engine.forest().cycles().parent(*name).number() {
             Some(parent) => entry(&order.places, parent),
             None => None,
         };
-        let radius = engine.forest.radius(*name, engine.clock.now());
+        let radius = engine.forest().radius(*name, engine.now());
         regions.push(Region {
             parent,
             radius: radius.unsigned_abs(),
@@ -97,8 +98,8 @@ pub fn regions_of(engine: &Engine, order: &Order) -> Result<Vec<Region>, NoMemor
 
 // Which region took each node, and at which radius.
 pub fn places_of(engine: &Engine, order: &Order) -> Result<Vec<Option<Place>>, NoMemory> {
-    let mut places = Vec::with_capacity(engine.alloc, engine.arcs.nodes())?;
-    for node in 0..number(engine.arcs.nodes()) {
+    let mut places = Vec::with_capacity(engine.alloc(), engine.arcs().nodes())?;
+    for node in 0..number(engine.arcs().nodes()) {
         places.push(place_of(engine, node, order))?;
     }
     Ok(places)
@@ -106,7 +107,7 @@ pub fn places_of(engine: &Engine, order: &Order) -> Result<Vec<Option<Place>>, N
 
 // Which region took a node, and at which radius.
 fn place_of(engine: &Engine, node: u32, order: &Order) -> Option<Place> {
-    let held = engine.cover.held(node)?;
+    let held = engine.cover().held(node)?;
     let region = entry(&order.places, held.region)?;
     Some(Place {
         region,
@@ -116,7 +117,7 @@ fn place_of(engine: &Engine, node: u32, order: &Order) -> Option<Place> {
 
 // How far all regions over a node reach beyond it.
 pub fn height_of(engine: &Engine, node: u32, order: &Order) -> i64 {
-    match engine.cover.held(node) {
+    match engine.cover().held(node) {
         Some(held) => {
             let over = entry(&order.heights, held.region).unwrap_or(0);
             over.wrapping_sub(held.radius)
@@ -127,7 +128,7 @@ pub fn height_of(engine: &Engine, node: u32, order: &Order) -> i64 {
 
 // The length of an edge.
 pub fn length_of(engine: &Engine, edge: u32) -> i64 {
-    engine.arcs.arc(first_dart(edge)).length
+    engine.arcs().arc(first_dart(edge)).length
 }
 
 // Turns the edges of a shortest way between two mates, and says whether there is one.
@@ -145,7 +146,7 @@ pub fn turn_way(
         Some(base) => entry(&order.heights, base).unwrap_or(0),
         None => 0,
     };
-    ways.turn_way(engine.arcs, Mates { one, other, floor }, marks)
+    ways.turn_way(engine.arcs(), Mates { one, other, floor }, marks)
 }
 
 // The least region that has two others, if there is one.
@@ -160,9 +161,9 @@ pub fn common(engine: &Engine, one: u32, other: u32, order: &Order) -> Option<u3
             return low;
         }
         if place_in(order, first) < place_in(order, second) {
-            low = engine.forest.cycles().parent(first).number();
+            low = engine.forest().cycles().parent(first).number();
         } else {
-            high = engine.forest.cycles().parent(second).number();
+            high = engine.forest().cycles().parent(second).number();
         }
     }
     None

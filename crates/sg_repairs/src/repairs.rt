@@ -2,8 +2,8 @@ use super::apart::{Ending, repair};
 use super::changes::Changes;
 use super::old_ways::OldWays;
 use super::order::changed_pairs;
-use super::parts::{Base, Parts, places_of, run_from};
-use super::{Engine, NoMemory};
+use super::parts::{Base, places_of, run_from};
+use super::{Engine, NoMemory, Parts};
 use sg_graph::{EdgeList, Terminals, Web};
 use sg_growth::{Adjacency, first_dart, second_dart};
 use sg_nest::Nest;
@@ -278,7 +278,7 @@ fn found_by(alloc: Global, engine: &mut Engine, edges: usize) -> Result<Option<F
     if !run_between(engine, NO_END)? {
         return Ok(None);
     }
-    let mut changes = Changes::new(alloc, engine, edges, engine.terminals.len())?;
+    let mut changes = Changes::new(alloc, engine, edges, engine.terminals().len())?;
     let Some(finished) = kept(alloc, engine, &mut changes, edges)? else {
         return Ok(None);
     };
@@ -287,7 +287,7 @@ fn found_by(alloc: Global, engine: &mut Engine, edges: usize) -> Result<Option<F
 
 // Runs from the terminals that are there when the ends of an edge are these.
 fn run_between(engine: &mut Engine, ends: [Ending; 2]) -> Result<bool, NoMemory> {
-    let is_planted = planted(engine.alloc, engine.terminals.len(), ends)?;
+    let is_planted = planted(engine.alloc(), engine.terminals().len(), ends)?;
     run_from(engine, &is_planted)
 }
 
