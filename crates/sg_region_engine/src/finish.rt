@@ -23,13 +23,18 @@ impl<'a, L: Limit> Engine<'a, L> {
     /// The finished regions. The only error is running out of memory.
     pub fn nest(&self) -> Result<Nest, NoMemory> {
         let mut nest = Nest::new(self.alloc, self.arcs.nodes(), self.forest.len())?;
+        self.note_all(&mut nest)?;
+        Ok(nest)
+    }
+
+    // Notes all regions.
+    fn note_all(&self, nest: &mut Nest) -> Result<(), NoMemory> {
         for name in 0..number(self.forest.len()) {
             if self.cover.is_open(name) {
-                self.note_region(name, &mut nest)?;
+                self.note_region(name, nest)?;
             }
         }
-        nest.close(self.alloc)?;
-        Ok(nest)
+        nest.close(self.alloc)
     }
 
     // Notes a region, its parts and the nodes that it took itself.

@@ -12,7 +12,7 @@
 // the other kind becomes a root one later; and where arcs are four times as long, two later.
 use super::Engine;
 use crate::NoMemory;
-use sg_forest::{Contact, Limit, Role};
+use sg_forest::{Contact, Limit, Link, Role};
 use sg_slots::number;
 use std::mem::swap;
 
@@ -74,22 +74,30 @@ impl<'a, L: Limit> Engine<'a, L> {
     fn pair_rest(&mut self, contact: Contact) -> Result<(), NoMemory> {
         let blossom = self.forest.top(contact.own.terminal);
         let size = self.forest.cycles().size(blossom);
-        let now = self.clock.now();
-        self.cut_rows(blossom);
-        self.cover.close(blossom);
-        self.forest.expand(blossom, now, &mut self.work)?;
+        self.take_apart(blossom)?;
         self.forest.free_name(blossom)?;
         let mut way = Vec::new(self.alloc);
         swap(&mut way, &mut self.cycle);
+        self.pair_round(contact, size, &mut way)?;
+        swap(&mut way, &mut self.cycle);
+        Ok(())
+    }
+
+    // Pairs the top of a contact by it, and the others of its cycle along the cycle.
+    fn pair_round(
+        &mut self,
+        contact: Contact,
+        size: u32,
+        way: &mut Vec<Link>,
+    ) -> Result<(), NoMemory> {
         let first = self.forest.top(contact.own.terminal);
-        self.forest.list_ahead(first, size, &mut way)?;
+        self.forest.list_ahead(first, size, way)?;
         for (step, link) in way.iter().enumerate() {
             if step % 2 == 1 {
                 self.forest.pair_by(link.contact);
             }
         }
         self.forest.set_pair(contact);
-        swap(&mut way, &mut self.cycle);
         Ok(())
     }
 

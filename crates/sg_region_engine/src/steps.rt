@@ -180,21 +180,38 @@ impl<'a, L: Limit> Engine<'a, L> {
         };
         let tree = self.forest.tree(name);
         let size = self.forest.cycles().size(name);
-        let now = self.clock.now();
-        self.cut_rows(name);
-        self.cover.close(name);
-        self.forest.expand(name, now, &mut self.work)?;
+        self.take_apart(name)?;
         let mut way = Vec::new(self.alloc);
         swap(&mut way, &mut self.cycle);
-        let first = self.forest.top(above.own.terminal);
-        let last = self.forest.top(pair.own.terminal);
-        let length = self.forest.list_even_way(first, last, size, &mut way)?;
-        self.forest.set_above(above);
-        self.forest.set_pair(pair);
-        self.regroup(&way, length, tree)?;
-        self.wake_parts(&way, length)?;
+        self.keep_even_side(pair, above, size, tree, &mut way)?;
         swap(&mut way, &mut self.cycle);
         Ok(())
+    }
+
+    // The parts of a blossom are tops.
+    pub(super) fn take_apart(&mut self, blossom: u32) -> Result<(), NoMemory> {
+        self.cut_rows(blossom);
+        self.cover.close(blossom);
+        self.forest
+            .expand(blossom, self.clock.now(), &mut self.work)
+    }
+
+    // The even side of a blossom with these two contacts, which was taken apart, stays in its tree.
+    fn keep_even_side(
+        &mut self,
+        pair: Contact,
+        above: Contact,
+        size: u32,
+        tree: Option<u32>,
+        way: &mut Vec<Link>,
+    ) -> Result<(), NoMemory> {
+        let first = self.forest.top(above.own.terminal);
+        let last = self.forest.top(pair.own.terminal);
+        let length = self.forest.list_even_way(first, last, size, way)?;
+        self.forest.set_above(above);
+        self.forest.set_pair(pair);
+        self.regroup(way, length, tree)?;
+        self.wake_parts(way, length)
     }
 
     // The rows of a blossom's parts are rows of their own again.
