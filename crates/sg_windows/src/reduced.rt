@@ -54,10 +54,21 @@ impl Reduced {
         is_out: &[bool],
     ) -> Result<Reduced, NoMemory> {
         let bonds = bonds_left(alloc, is_out)?;
-        let sides = sides_of(alloc, sheet, &bonds)?;
-        let chains = Chains::new(alloc, sheet.faces(), &sides)?;
-        let mut reduced = Reduced {
-            chain_of: vec![in alloc; Slot::none(); sheet.bonds()]?,
+        let chains = chains_of(alloc, sheet, &bonds)?;
+        let mut reduced = Reduced::empty(alloc, sheet.bonds(), chains, bonds)?;
+        reduced.add_chains(sheet, broken)?;
+        Ok(reduced)
+    }
+
+    // The same before anything is known of its chains.
+    fn empty(
+        alloc: Global,
+        count: usize,
+        chains: Chains,
+        bonds: Vec<u32>,
+    ) -> Result<Reduced, NoMemory> {
+        Ok(Reduced {
+            chain_of: vec![in alloc; Slot::none(); count]?,
             costs: Vec::with_capacity(alloc, chains.len())?,
             open: Vec::with_capacity(alloc, chains.len())?,
             is_turned: vec![in alloc; false; chains.len()]?,
@@ -66,11 +77,15 @@ impl Reduced {
             kept_ends: Vec::new(alloc),
             chains,
             bonds,
-        };
-        for chain in 0..number(reduced.chains.len()) {
-            reduced.add_chain(sheet, broken, chain)?;
+        })
+    }
+
+    // Adds what it costs to turn each chain.
+    fn add_chains(&mut self, sheet: &Sheet, broken: &[bool]) -> Result<(), NoMemory> {
+        for chain in 0..number(self.chains.len()) {
+            self.add_chain(sheet, broken, chain)?;
         }
-        Ok(reduced)
+        Ok(())
     }
 
     // Adds what it costs to turn a chain.
@@ -244,6 +259,12 @@ fn bonds_left(alloc: Global, is_out: &[bool]) -> Result<Vec<u32>, NoMemory> {
         }
     }
     Ok(bonds)
+}
+
+// The chains of these bonds.
+fn chains_of(alloc: Global, sheet: &Sheet, bonds: &[u32]) -> Result<Chains, NoMemory> {
+    let sides = sides_of(alloc, sheet, bonds)?;
+    Chains::new(alloc, sheet.faces(), &sides)
 }
 
 // The faces on both sides of each of these bonds.

@@ -96,24 +96,28 @@ pub fn names_by_room(
     broken: &[bool],
     nest: &Nest,
 ) -> Result<Vec<u32>, NoMemory> {
-    let regions = nest.regions.as_slice();
-    let places = nest.places.as_slice();
-    let heights = heights_of(alloc, regions)?;
+    let heights = heights_of(alloc, nest.regions.as_slice())?;
     let mut set = Vec::new(alloc);
     for bond in 0..number(sheet.bonds()) {
-        let one = place_at(places, sheet.side(first_dart(bond)));
-        let other = place_at(places, sheet.side(second_dart(bond)));
-        let over = height_at(&heights, one).wrapping_add(height_at(&heights, other));
-        let both = shared(regions, &heights, one, other);
-        let load = over.wrapping_sub(both.wrapping_mul(2));
         let size = sheet.coupling(bond).unsigned_abs();
         let is_broken = entry(broken, bond).unwrap_or(true);
+        let load = load_of(sheet, nest, &heights, bond);
         set.push(!is_broken && load < size.wrapping_mul(4))?;
     }
     if set.len() != inst.bonds().len() {
         return Ok(Vec::new(alloc));
     }
     names(alloc, inst, &set)
+}
+
+// How much of a bond the nest takes.
+fn load_of(sheet: &Sheet, nest: &Nest, heights: &[u64], bond: u32) -> u64 {
+    let places = nest.places.as_slice();
+    let one = place_at(places, sheet.side(first_dart(bond)));
+    let other = place_at(places, sheet.side(second_dart(bond)));
+    let over = height_at(heights, one).wrapping_add(height_at(heights, other));
+    let both = shared(nest.regions.as_slice(), heights, one, other);
+    over.wrapping_sub(both.wrapping_mul(2))
 }
 
 /// For each bond whether its ends have the same name.

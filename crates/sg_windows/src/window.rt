@@ -165,23 +165,8 @@ impl Window {
         edges: Vec<Edge>,
         terminals: &[u32],
     ) -> Result<Option<EdgeList>, NoMemory> {
-        let nodes = self.chains.nodes;
-        let arcs = Adjacency::new(alloc, nodes, edges)?;
-        let places = u64::from(nodes).saturating_add(arcs.darts() as u64);
-        let allowed = Allowance::brief(terminals.len(), places);
-        let mut engine = Engine::<Unlimited>::new(
-            alloc,
-            &arcs,
-            terminals,
-            Method::AtOnce,
-            allowed,
-        )?;
-        if !engine.run()? {
-            return Ok(None);
-        }
-        let nest = engine.nest()?;
-        let pairs = engine.pairs()?;
-        join_of(alloc, &arcs, &nest, &pairs, arcs.edges())
+        let arcs = Adjacency::new(alloc, self.chains.nodes, edges)?;
+        join_over(alloc, &arcs, terminals)
     }
 
     // The chains of the whole in the edges that are marked.
@@ -202,6 +187,32 @@ impl Window {
         }
         Ok(())
     }
+}
+
+// A minimum T-join that is proposed over these arcs.
+fn join_over(
+    alloc: Global,
+    arcs: &Adjacency,
+    terminals: &[u32],
+) -> Result<Option<EdgeList>, NoMemory> {
+    let places = (arcs.nodes() as u64).saturating_add(arcs.darts() as u64);
+    let allowed = Allowance::brief(terminals.len(), places);
+    let mut engine = Engine::<Unlimited>::new(alloc, arcs, terminals, Method::AtOnce, allowed)?;
+    join_by(alloc, arcs, &mut engine)
+}
+
+// The same by an engine that has not run yet.
+fn join_by(
+    alloc: Global,
+    arcs: &Adjacency,
+    engine: &mut Engine<Unlimited>,
+) -> Result<Option<EdgeList>, NoMemory> {
+    if !engine.run()? {
+        return Ok(None);
+    }
+    let nest = engine.nest()?;
+    let pairs = engine.pairs()?;
+    join_of(alloc, arcs, &nest, &pairs, arcs.edges())
 }
 
 // Toggles a mark.
