@@ -34,8 +34,7 @@ pub fn dual(alloc: Global, inst: &Instance, faces: &Faces) -> Result<(Web, Termi
     ensures connected { IfOk result (λ d. IsConnectedInstance inst.now → IsConnectedWeb d.0) }
 {
     let edges = dual_edges(alloc, inst, faces)?;
-    let marks = frustration(alloc, inst, faces)?;
-    let terminals = places(alloc, &marks)?;
+    let terminals = frustrated(alloc, inst, faces)?;
     Ok((Web::new(faces.count(), edges), terminals))
 }
 
@@ -65,6 +64,17 @@ fn dual_edges(alloc: Global, inst: &Instance, faces: &Faces) -> Result<Edges, No
         })?;
     }
     Ok(edges)
+}
+
+// The frustrated faces, rising.
+fn frustrated(alloc: Global, inst: &Instance, faces: &Faces) -> Result<Terminals, NoMemory>
+    requires labels { IsFaceLabels inst.now faces.now }
+    requires few { faces.now.count ≤ 2 ^ 24 }
+    ensures { IfOk result (λ terminals. terminals ≡ frustrated_faces inst.now faces.now) }
+{
+    let marks = frustration(alloc, inst, faces)?;
+    let terminals = places(alloc, &marks)?;
+    Ok(terminals)
 }
 
 // For each face whether it is frustrated.

@@ -4,7 +4,7 @@ use Rattle.sg_graph.specs.Walk.{IsConnectedWeb}
 use Rattle.sg_graph.specs.Join.{AreTerminals}
 use Rattle.sg_dual.specs.Dual.{dual_web}
 use Rattle.sg_dual.proofs.DualWebs.{dual_is_web, web_is}
-use Rattle.sg_dual.proofs.Frustration.{even_frustrated, frustrated_terminals, frustrated_from_marks}
+use Rattle.sg_dual.proofs.Frustration.{even_frustrated, frustrated_terminals}
 use Rattle.sg_dual.proofs.FacesJoined.{dual_connected}
 use Rattle.sg_dual.proofs.duality.dual.Goals as goal
 
@@ -16,19 +16,14 @@ new-requires c =
 pub returns-clause-web : goal.returns-clause-web
 returns-clause-web c = c.new.ensures ∙ web_is c.args.inst.now c.args.faces.now c.count.result c.in_ok-edges.edges c.count.ensures c.in_ok-edges.ensures.edges
 
-pub returns-clause-frustrated : goal.returns-clause-frustrated
-returns-clause-frustrated c =
-    frustrated_from_marks c.args.inst.now c.args.faces.now c.in_ok-marks.marks.items c.deref.result.now c.in_ok-terminals.terminals
-    c.deref.ensures.value (c.deref.ensures.len ∙ c.in_ok-marks.ensures.lengths) c.in_ok-marks.ensures.marks c.in_ok-terminals.ensures
-
 pub returns-clause-terminals : goal.returns-clause-terminals
 returns-clause-terminals c =
     subst (λ (g : Graph). AreTerminals g c.in_ok-terminals.terminals) (sym (returns-clause-web c))
-    (subst (AreTerminals (dual_web c.args.inst.now c.args.faces.now)) (sym (returns-clause-frustrated c))
+    (subst (AreTerminals (dual_web c.args.inst.now c.args.faces.now)) (sym c.in_ok-terminals.ensures)
     (frustrated_terminals c.args.inst.now c.args.faces.now))
 
 pub returns-clause-even : goal.returns-clause-even
-returns-clause-even c = ap (λ ts. length ts % 2) (returns-clause-frustrated c) ∙ even_frustrated c.args.inst.now c.args.faces.now c.requires.labels
+returns-clause-even c = ap (λ ts. length ts % 2) c.in_ok-terminals.ensures ∙ even_frustrated c.args.inst.now c.args.faces.now c.requires.labels
 
 pub returns-clause-connected : goal.returns-clause-connected
 returns-clause-connected c = λ whole.
