@@ -14,7 +14,7 @@ ghost use Rattle.sg_model.specs.Faults.{OrNoMemory};
 use super::drawn::drawn_planar;
 use sg_ensemble::{Width, WidthList, width_on};
 use sg_lattice::Kind;
-use sg_laws::Disorder;
+use sg_laws::{Disorder, start};
 use sg_model::Fault;
 use sg_report::{NoMemory, Reply, done, refuse_fault, widths_text};
 use sg_words::Size;
@@ -90,7 +90,10 @@ fn sums_of(
     ensures seeds { (s c : ℕ) → seeded law.new s c ≡ seeded law.old s c }
 {
     match drawn_planar(alloc, law, seed, Kind::Cylinder, size) {
-        Ok(first) => Ok(width_on(alloc, law, seed, first, size.rows, size.cols, count)?),
+        Ok(first) => {
+            start(law, seed);
+            Ok(width_on(alloc, law, first, size.rows, size.cols, count)?)
+        }
         Err(fault) => Err(fault),
     }
 }

@@ -80,13 +80,12 @@ fn one_width(
     Ok(width_of(cols, &found))
 }
 
-/// One width of `widths`, from 1 to 1000 samples, on a drawing that the caller has and gives up: a
-/// cylinder of this size, with any couplings. The law is seeded anew. The only error is running out of
-/// memory; the law has then made the draws of some samples.
+/// One width of `widths`, from 1 to 1000 samples with the next draws of the law, on a drawing that the caller
+/// has and gives up: a cylinder of this size, with any couplings. The only error is running out of memory;
+/// the law has then made the draws of some samples.
 pub fn width_on(
     alloc: Global,
     law: &mut Box<dyn Disorder>,
-    seed: u64,
     drawing: Planar,
     rows: u32,
     cols: u32,
@@ -96,13 +95,12 @@ pub fn width_on(
     requires cylinder { IsCylinder rows cols drawing.instance }
     requires some { 1 ≤ count }
     requires few { count ≤ sample_limit }
-    ensures width { IfOk result (IsWidth rows cols count (seeded law.old seed)) }
-    ensures rest { OnOk result (Draws (count * draw_count rows cols) (seeded law.old seed) (next law.new)) }
-    ensures made { DrawsSamples rows cols count (seeded law.old seed) (next law.new) }
+    ensures width { IfOk result (IsWidth rows cols count (next law.old)) }
+    ensures rest { OnOk result (Draws (count * draw_count rows cols) (next law.old) (next law.new)) }
+    ensures made { DrawsSamples rows cols count (next law.old) (next law.new) }
     ensures title { title law.new ≡ title law.old }
     ensures seeds { (s c : ℕ) → seeded law.new s c ≡ seeded law.old s c }
 {
-    start(law, seed);
     let found = ensemble_on(alloc, law, drawing, rows, cols, count)?;
     Ok(width_of(cols, &found))
 }
