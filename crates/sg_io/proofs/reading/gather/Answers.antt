@@ -1,4 +1,5 @@
 use Rattle.std.proofs.Common.{◌≡◌, ◌+◌, ◌<◌, ◌++◌, ℕ, length, take, subst, arith, length-append}
+use Rattle.std.proofs.lemmas.Grind.{common_steps}
 use Rattle.std.proofs.lemmas.List.{length-take}
 use Rattle.std.proofs.lemmas.Result.{err_from_is_err_and}
 use Rattle.sg_io.specs.Devices.{DropsFront}
@@ -37,3 +38,9 @@ returns-in_err-extend_from_slice-in-Got-clause-stopped g c =
       Loses-more bytes c.in-Got.count (left c.args.source.now) (left c.loop-count.source) (left c.read.new.self)
           c.loop-count.invariant.taken c.in-Got.ensures.bytes.1,
     )
+
+pub loop-count-preserved : goal.loop-count-preserved
+loop-count-preserved g c = grind (arith, common_steps)
+
+pub returns-in-Failed-clause-stopped : goal.returns-in-Failed-clause-stopped
+returns-in-Failed-clause-stopped g c = grind (arith, common_steps)
