@@ -12,6 +12,19 @@ use sg_check::{Loop, Loops};
 use sg_model::Spins;
 use std::alloc::Global;
 
+// The members of a report.
+#[derive(Clone, Copy)]
+struct Members<'a> {
+    bonds: u32,
+    sum: i64,
+    energy: i64,
+    spins: &'a [i8],
+    loops: &'a [Loop],
+    costs: &'a [i64],
+    clusters: &'a [u32],
+    wall: Option<[i64; 3]>,
+}
+
 /// The text of a report: one line, a JSON object without blanks, its members in the order of their
 /// names. The energies of the wall are given in the order of `wall_text`.
 pub fn report_text(
@@ -28,17 +41,17 @@ pub fn report_text(
     ensures { IfOk result (λ text. text.items
         ≡ report_bytes bonds sum energy spins.now loops.now costs.now clusters.now wall) }
 {
-    let value = report_value(
-        alloc,
+    let members = Members {
         bonds,
         sum,
         energy,
-        spins.as_slice(),
-        loops.as_slice(),
+        spins: spins.as_slice(),
+        loops: loops.as_slice(),
         costs,
         clusters,
         wall,
-    )?;
+    };
+    let value = report_value(alloc, &members)?;
     line_of(alloc, &value)
 }
 
@@ -52,25 +65,18 @@ fn line_of(alloc: Global, value: &Value) -> Result<Vec<u8>, NoMemory>
     Ok(text)
 }
 
-fn report_value(
-    alloc: Global,
-    bonds: u32,
-    sum: i64,
-    energy: i64,
-    spins: &[i8],
-    loops: &[Loop],
-    costs: &[i64],
-    clusters: &[u32],
-    wall: Option<[i64; 3]>,
-) -> Result<Value, NoMemory>
-    ensures { IfOk result (λ v. view v
-        ≡ report_data bonds sum energy spins.now loops.now costs.now clusters.now wall) }
+fn report_value(alloc: Global, members: &Members) -> Result<Value, NoMemory>
+    ensures { IfOk result (λ v. view v ≡ report_data members.now.bonds members.now.sum members.now.energy
+        members.now.spins.now members.now.loops.now members.now.costs.now members.now.clusters.now members.now.wall) }
 {
-    let clusters = Value::Array(name_values(alloc, clusters)?);
-    let costs = Value::Array(number_values(alloc, costs)?);
-    let loops = Value::Array(loop_values(alloc, loops)?);
-    let spins = Value::Array(spin_values(alloc, spins)?);
-    let wall = wall_value(alloc, wall)?;
+    let bonds = members.bonds;
+    let sum = members.sum;
+    let energy = members.energy;
+    let clusters = Value::Array(name_values(alloc, members.clusters)?);
+    let costs = Value::Array(number_values(alloc, members.costs)?);
+    let loops = Value::Array(loop_values(alloc, members.loops)?);
+    let spins = Value::Array(spin_values(alloc, members.spins)?);
+    let wall = wall_value(alloc, members.wall)?;
     json!(in alloc; {
         "bonds": bonds,
         "clusters": clusters,
