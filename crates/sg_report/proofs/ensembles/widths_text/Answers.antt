@@ -1,4 +1,4 @@
-use Rattle.std.specs.Prelude.{codes, pos}
+use Rattle.std.specs.Prelude.{codes}
 use Rattle.std.proofs.Common.{◌≡◌, ℕ, ◌++◌, ◌∙◌, ap, get_or, arith, rules}
 use Rattle.sg_report.specs.Text.{listed_int}
 use Rattle.sg_report.specs.Ensembles.{width_line}
