@@ -1,4 +1,5 @@
 use Rattle.std.proofs.Common.{◌≡◌, ◌∙◌, List, Option, None, map, length, sym, ap, arith, codes, inl, subst}
+use Rattle.std.proofs.lemmas.Grind.{common_steps}
 use Rattle.std.proofs.lemmas.List.{length-map}
 use Rattle.std.proofs.lemmas.Result.{IfErr-weaker, IfOk-weaker, err_from_is_err_and}
 use Rattle.serde_json.specs.Data.{Data}
@@ -84,3 +85,6 @@ returns-clause-fault c =
     let pass = same_test at.After-check_lattice ∙ c.in_ok-size.ensures.passes in
     IfErr-weaker _ _ _ (λ e bad. behind-test (draft_fault program_limits (OfLattice (lattice_draft c.args.kind d)))
     (drafted (OfLattice (lattice_draft c.args.kind d))) e pass (subst (λ (i : Ising). OrNoMemory (IsRefusalOf i) e) said bad)) c.build_lattice.ensures.refused
+
+pub build_lattice-requires-clause-count : goal.build_lattice-requires-clause-count
+build_lattice-requires-clause-count c = grind (arith, common_steps)
