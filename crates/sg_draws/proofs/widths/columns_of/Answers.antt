@@ -1,5 +1,6 @@
 use Rattle.std.proofs.Common.{arith, ap, ap₂, get_or, length, pos, rules, sym, w64, [], ◌++◌, ◌<◌, ◌∙◌, ◌∷◌}
 use Rattle.std.specs.Int.{w128}
+use Rattle.std.proofs.lemmas.Grind.{common_steps}
 use Rattle.std.proofs.lemmas.Int.{to_z-of_z}
 use Rattle.std.proofs.lemmas.List.{map_more}
 use Rattle.sg_ensemble.specs.declared.by_width.Width.{Width}
@@ -22,3 +23,12 @@ loop-width-preserved c =
           ∙ ap₂ (λ xs x. xs ++ x ∷ []) c.loop-width.invariant.squares (to_z-of_z w128 width.squares (search rules))
           ∙ sym (map_more (λ (w : Width). w.squares) all i blank low);
     }
+
+pub returns-clause-cols : goal.returns-clause-cols
+returns-clause-cols c = grind (arith, common_steps)
+
+pub returns-clause-sums : goal.returns-clause-sums
+returns-clause-sums c = grind (arith, common_steps)
+
+pub returns-clause-squares : goal.returns-clause-squares
+returns-clause-squares c = grind (arith, common_steps)
