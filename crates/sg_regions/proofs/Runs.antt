@@ -1,10 +1,10 @@
 -- The steps of runs one after another.
-use Rattle.std.proofs.Common.{ℕ, ◌+◌, ◌*◌, ◌-◌, ◌≡◌, ◌≤◌, ◌^◌, arith, min}
+use Rattle.std.proofs.Common.{ℕ, ◌+◌, ◌*◌, ◌-◌, ◌≡◌, ◌≤◌, ◌^◌, Option, Some, None, IfSome, arith, min}
 use Rattle.std.proofs.lemmas.Nat.{mul-le}
 use Rattle.std.proofs.Math.Nat.{add-mul, min-le_left}
 use Rattle.sg_forest.specs.Counts.{KeepsTo, event_limit, growth_limit}
 use Rattle.sg_forest.specs.declared.growth.Growth.{Growth}
-use Rattle.sg_regions.specs.Steps.{Accounts, RegionSteps, TakesRuns}
+use Rattle.sg_regions.specs.Steps.{Accounts, GrowthAccounts, RegionSteps, TakesRuns}
 
 -- what keeps to a multiple keeps to a greater one
 more : (m n x a : ℕ) → m ≤ n → a ≤ m * x → a ≤ n * x
@@ -58,3 +58,13 @@ accounts_later m terminals places regions old mid new first counted = record {
   blossoms = omega (arith, first.blossoms_rise, counted.blossoms);
   events = λ some. omega (arith, first.events_rise, counted.events some);
 }
+
+-- what the growth of a proposal accounts for, the steps with it account for
+pub accounts_grown : {P : Type 0} (o : Option P) (regions : P → ℕ) (terminals : ℕ) (g : Growth) (old new : RegionSteps) →
+    new.blossoms ≡ old.blossoms + g.blossoms → new.events ≡ old.events + g.events →
+    IfSome o (λ p. GrowthAccounts terminals (regions p) g) → IfSome o (λ p. Accounts terminals (regions p) old new)
+accounts_grown (Some p) regions terminals g old new blossoms events counted = record {
+  blossoms = omega (arith, blossoms, counted.blossoms);
+  events = λ some. omega (arith, events, counted.events some);
+}
+accounts_grown None regions terminals g old new blossoms events counted = tt
