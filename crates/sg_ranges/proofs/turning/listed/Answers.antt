@@ -1,4 +1,5 @@
 use Rattle.std.proofs.Common.{◌≡◌, ◌<◌, ◌+◌, ◌*◌, ◌∷◌, ◌++◌, [], length, get_or, pos, sym, ◌∙◌, ap, subst, arith}
+use Rattle.std.proofs.lemmas.Grind.{common_steps}
 use Rattle.std.proofs.lemmas.List.{length_push}
 use Rattle.sg_limits.specs.Limits.{sum_limit}
 use Rattle.sg_model.specs.Ising.{bond_count}
@@ -42,3 +43,6 @@ returns-clause-turning_points c =
     λ k l.
     turn_parts c.args.inst.now c.bonds.ensures.instance k l (get_or c.loop-k.turns k (pos 0))
     (c.loop-k.invariant.each k (omega (arith, l, c.loop-k-test.false, ap length bonds)))
+
+pub turn-turning-requires-clause-coupling : goal.turn-turning-requires-clause-coupling
+turn-turning-requires-clause-coupling c = grind (arith, common_steps)
