@@ -69,7 +69,7 @@ fn proved_part(
 }
 
 // A minimum T-join of the frustrated faces, with odd cuts that prove it.
-#[tactic(auto, using(crate::proofs::CountedSteps::any_dual, crate::proofs::Solutions::any_tight))]
+#[tactic(auto, using(crate::proofs::CountedSteps::any_dual))]
 fn join_faces(
     alloc: Global,
     planar: &Planar,
