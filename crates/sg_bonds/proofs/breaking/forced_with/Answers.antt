@@ -1,4 +1,5 @@
-use Rattle.std.proofs.Common.{rules, ◌≡◌, List, ℤ, map, ap, ◌∙◌, w64, to_z, of_z, to_z-of_z}
+use Rattle.std.proofs.Common.{rules, ◌≡◌, List, ℤ, map, ap, ◌∙◌, w64, to_z, of_z, to_z-of_z, arith}
+use Rattle.std.proofs.lemmas.Grind.{common_steps}
 use Rattle.sg_model.specs.Broken.{is_broken}
 use Rattle.sg_model.specs.Ising.{Ising}
 use Rattle.sg_bonds.proofs.TurnedBonds.{marks_broken}
@@ -13,3 +14,6 @@ returns-clause-breaks c =
     marks_broken inst s c.in_ok-state.ensures.assignment (to_z w64 (of_z w64 c.in_ok-state.state.energy))
     (to_z-of_z {w = w64} {z = c.in_ok-state.state.energy} (search rules) ∙ c.in_ok-state.ensures.energy)
     c.deref.result.now (c.deref.ensures.value ∙ c.in_ok-marks.ensures ∙ ap (map (is_broken s)) bonds) c.in_ok-places.field-0 c.in_ok-places.ensures
+
+pub places-requires : goal.places-requires
+places-requires c = grind (arith, common_steps)

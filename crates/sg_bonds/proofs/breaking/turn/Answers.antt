@@ -1,4 +1,5 @@
-use Rattle.std.proofs.Common.{◌≡◌, ap, neg_ℤ, sym, ◌∙◌}
+use Rattle.std.proofs.Common.{◌≡◌, ap, neg_ℤ, sym, ◌∙◌, arith}
+use Rattle.std.proofs.lemmas.Grind.{elements}
 use Rattle.sg_model.specs.Ising.{bond_at}
 use Rattle.sg_model.specs.Energy.{product}
 use Rattle.sg_bonds.proofs.CostNumbers.{kept_unit, read_bond}
@@ -11,3 +12,6 @@ gap-cost-requires-clause-other c =
     c.bonds.result.now c.args.bond c.at-ends.result.now c.at-ends.ensures c.bonds.ensures.value c.instance.ensures.value in
     ap (product c.args.study.now.least.now.spins) read ∙ c.other_product-other.ensures.other
     ∙ ap neg_ℤ (sym (kept_unit c.other_product-other.result c.other_product-other.ensures.up_or_down))
+
+pub other_product-other-requires : goal.other_product-other-requires
+other_product-other-requires c = grind (arith, elements)

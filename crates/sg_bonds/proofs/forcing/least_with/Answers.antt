@@ -1,4 +1,5 @@
-use Rattle.std.proofs.Common.{◌≡◌, ap, subst}
+use Rattle.std.proofs.Common.{◌≡◌, ap, subst, arith}
+use Rattle.std.proofs.lemmas.Grind.{common_steps, rows}
 use Rattle.sg_model.specs.declared.bond.Bond.{Bond}
 use Rattle.sg_model.specs.Ising.{bond_at}
 use Rattle.sg_model.specs.WellFormed.{IsInstance}
@@ -69,3 +70,12 @@ returns-clause-energy c =
     energy_found c.args.study.now.planar.now.instance (good c) c.args.bond c.requires.bond_in c.requires.study.sum c.args.wanted c.requires.up_or_down
     c.force-force.result c.signed.result c.in_ok-least.least.energy c.signed-2.result c.at.result.now.j
     c.in_ok-forced.forced.instance c.in_ok-least.least.spins (solved c)
+
+pub with_coupling-requires-clause-sum : goal.with_coupling-requires-clause-sum
+with_coupling-requires-clause-sum c = grind (arith, common_steps, rows)
+
+pub returns-in_err-least-clause-too_large : goal.returns-in_err-least-clause-too_large
+returns-in_err-least-clause-too_large c = grind (arith, common_steps)
+
+pub returns-clause-assignment : goal.returns-clause-assignment
+returns-clause-assignment c = grind (arith, common_steps)
