@@ -15,12 +15,23 @@ use std::marker::Model;
 /// An instance: at least one spin and at most 2^24 spins and bonds, each bond between two
 /// different spins, no coupling the least i64; for each spin the cyclic order of its darts; and a
 /// seam of different bonds.
-#[derive(Drop)]
 pub struct Instance {
     n: u32,
     bonds: Bonds,
     rotation: Rotation,
     seam: BondList,
+}
+
+// An explicit `Drop`: otherwise every early return of an owner drops each list, and the prover pays for each.
+impl Drop for Instance {
+    fn drop(self) {
+        let Instance {
+            n: _,
+            bonds: _bonds,
+            rotation: _rotation,
+            seam: _seam,
+        } = self;
+    }
 }
 
 impl Model for Instance {

@@ -18,11 +18,21 @@ use std::marker::Model;
 
 /// An instance, each component of which is drawn on a sphere, with its faces and its components. The
 /// sum of the couplings' sizes is at most 2^45 + 1.
-#[derive(Drop)]
 pub struct Planar {
     instance: Instance,
     faces: Faces,
     components: Components,
+}
+
+// An explicit `Drop`: otherwise every early return of an owner drops each list, and the prover pays for each.
+impl Drop for Planar {
+    fn drop(self) {
+        let Planar {
+            instance: _instance,
+            faces: _faces,
+            components: _components,
+        } = self;
+    }
 }
 
 impl Model for Planar {
