@@ -3,7 +3,7 @@
 
   tools/measure functions [--most N] CRATE..
 
-A check writes files for each function into out/incremental of the crate, here or in a folder of built/rooms, and the
+A check writes files for each function into out/incremental of the crate (`rt check`, `tools/build --keep`), and the
 time since the file before it is that of a step. `Lts`, the translation of a body, grows with its exits times the lists
 that it owns there; `Proof` is the search for goals without an answer. Other load makes the times longer, so the size
 of the translation is told too: it takes some two seconds for each MB. Work that was kept has the times of the check
@@ -24,9 +24,8 @@ ENDING = re.compile(rf"\.({'|'.join(STEPS)})([.-].*)?$")
 
 def kept_files(crate):
     """The time, name and size of each file of the last check of a crate, in the order of the times."""
-    folders = [TOP / "crates" / crate, *(TOP / "built" / "rooms").glob(f"*/crates/{crate}")]
-    found = [list(folder.glob("out/incremental/*/*.oantt")) for folder in folders]
-    return sorted((file.stat().st_mtime, file.stem, file.stat().st_size) for file in max(found, key=len))
+    found = (TOP / "crates" / crate).glob("out/incremental/*/*.oantt")
+    return sorted((file.stat().st_mtime, file.stem, file.stat().st_size) for file in found)
 
 
 def steps_of(crate):
