@@ -50,9 +50,9 @@ NUMBERS = (
     ("docs/ALGORITHM.md", "more than 16 arcs", "crates/sg_region_engine/src/open_hubs.rt", "MOST_ARCS: usize = 16;"),
     ("docs/ALGORITHM.md", "more than 128 arcs", "crates/sg_growth/src/hubs.rt", "MOST_ARCS: usize = 128;"),
     ("docs/ALGORITHM.md", "more than eight times the mean", "crates/sg_regions/src/layout.rt", "EVEN: i64 = 8;"),
-    ("docs/ALGORITHM.md", "65536 + 12 (k + 4) (n + 2m) + k^3 / 48", "crates/sg_forest/src/work.rt", ".saturating_add(4).saturating_mul(12)"),
-    ("docs/ALGORITHM.md", "65536 + 12 (k + 4) (n + 2m) + k^3 / 48", "crates/sg_forest/src/work.rt", "cube(count) / 48"),
-    ("docs/DEFINITIONS.md", "2 * 2^2 = 8 blossoms", "crates/sg_forest/specs/Counts.antt", "growth_limit terminals = 2 * terminals * terminals"),
+    ("docs/ALGORITHM.md", "65536 + 12 (k + 4) (n + 2m) + k^3 / 48", "crates/sg_work/src/work.rt", ".saturating_add(4).saturating_mul(12)"),
+    ("docs/ALGORITHM.md", "65536 + 12 (k + 4) (n + 2m) + k^3 / 48", "crates/sg_work/src/work.rt", "cube(count) / 48"),
+    ("docs/DEFINITIONS.md", "2 * 2^2 = 8 blossoms", "crates/sg_work/specs/Counts.antt", "growth_limit terminals = 2 * terminals * terminals"),
 )
 
 passed = failed = 0

@@ -3,9 +3,10 @@
 use super::{Engine, Exit, HeadStart};
 use crate::NoMemory;
 use crate::slices::Batches;
-use sg_forest::{Contact, Forest, Limit, Link, Work};
+use sg_forest::{Contact, Forest, Link};
 use sg_growth::{Adjacency, Clock, Cover, Hubs};
 use sg_slots::number;
+use sg_work::{Limit, Work};
 use std::alloc::Global;
 
 /// An engine without its arcs and terminals.

@@ -7,8 +7,9 @@
 // at a hub one look.
 use super::Engine;
 use crate::NoMemory;
-use sg_forest::{Contact, End, Limit, Reach};
+use sg_forest::{Contact, End, Reach};
 use sg_growth::{Arc, Soon, reverse};
+use sg_work::Limit;
 
 impl<'a, L: Limit> Engine<'a, L> {
     // An outer region comes to a bare node of a free one. If another touches that node, the two meet;

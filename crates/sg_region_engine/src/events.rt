@@ -1,9 +1,10 @@
 // What comes of each event, and the run of all of them.
 use super::Engine;
 use crate::NoMemory;
-use sg_forest::{Contact, End, Limit, Reach, Role};
+use sg_forest::{Contact, End, Reach, Role};
 use sg_growth::{Arc, Held, NEVER, Soon, Subject, reverse};
 use sg_slots::number;
+use sg_work::Limit;
 
 impl<'a, L: Limit> Engine<'a, L> {
     // The event of an arc: the region at its start takes the node at its end, or meets a region. If

@@ -1,9 +1,10 @@
 // Reading the finished regions off: the nest, and the mates of all terminals.
 use super::Engine;
 use crate::NoMemory;
-use sg_forest::{End, Limit};
+use sg_forest::End;
 use sg_growth::{Clock, Nest, Pair};
 use sg_slots::{Slot, number};
+use sg_work::Limit;
 
 /// A region, and its terminal that is paired with one outside.
 #[derive(Clone, Copy)]

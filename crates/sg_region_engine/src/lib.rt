@@ -24,7 +24,7 @@
 #![tactic(auto)]
 
 ghost use Rattle.std.specs.Prelude.{◌≤◌};
-ghost use Rattle.sg_forest.specs.Counts.{event_limit, growth_limit};
+ghost use Rattle.sg_work.specs.Counts.{event_limit, growth_limit};
 
 mod apart;
 mod bare;
@@ -41,8 +41,9 @@ mod wake;
 pub use apart::Parts;
 pub use finish::Exit;
 pub use lists::Lists;
-use sg_forest::{Allowance, Forest, Growth, Limit, Link, Reach, Role, Work};
+use sg_forest::{Forest, Link, Reach, Role};
 use sg_growth::{Adjacency, Arc, Clock, Cover, Held, Hubs, NEVER, reverse};
+use sg_work::{Allowance, Growth, Limit, Work};
 use slices::Batches;
 pub use start::HeadStart;
 use std::alloc::{AllocError, Global};

@@ -5,8 +5,9 @@
 use super::Engine;
 use super::open_hubs::has_hub;
 use crate::NoMemory;
-use sg_forest::{Limit, Link};
+use sg_forest::Link;
 use sg_growth::{Adjacency, Clock, Cover, Hubs, NEVER};
+use sg_work::Limit;
 use std::alloc::Global;
 
 /// The lists of an engine about the nodes and arcs of a graph, before a run.

@@ -13,9 +13,10 @@
 // that is paired with none: the root of a tree in what follows. There is at most one such root for each hub.
 use super::Engine;
 use crate::NoMemory;
-use sg_forest::{Contact, End, Limit, Link, Role};
+use sg_forest::{Contact, End, Link, Role};
 use sg_growth::{Adjacency, reverse};
 use sg_slots::{Slot, entry, number, set_entry};
+use sg_work::Limit;
 use std::mem::swap;
 
 // A node with more arcs is a hub here. A heap of its own pays only where there are many more (`Hubs`).

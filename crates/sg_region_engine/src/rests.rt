@@ -12,8 +12,9 @@
 // the other kind becomes a root one later; and where arcs are four times as long, two later.
 use super::Engine;
 use crate::NoMemory;
-use sg_forest::{Contact, Limit, Link, Role};
+use sg_forest::{Contact, Link, Role};
 use sg_slots::number;
+use sg_work::Limit;
 use std::mem::swap;
 
 impl<'a, L: Limit> Engine<'a, L> {

@@ -11,19 +11,11 @@
 // This is exact: before and after each batch the state is one of the method, in which some trees do not grow.
 use super::Engine;
 use crate::NoMemory;
-use sg_forest::Limit;
 use sg_growth::{Adjacency, NEVER, first_dart};
 use sg_slots::{entry, number, set_entry};
+use sg_work::{Limit, batch_of};
 use std::alloc::Global;
 use std::mem::swap;
-
-// About how many nodes there are for all trees that grow at one time: so many that their data fit a cache.
-const NODES: usize = 2048;
-
-// Fewer trees never grow at one time: each batch meets the terminals of those that have not grown yet.
-const LEAST_BATCH: usize = 128;
-
-const MOST_BATCH: usize = 1024;
 
 // Terminals are sparse if there are so many nodes for each.
 const SPARSE: usize = 4;
@@ -73,12 +65,6 @@ impl Batches {
     pub(super) fn is_left(&self, tree: u32) -> bool {
         entry(&self.has_mate, tree) == Some(false)
     }
-}
-
-// How many trees grow at one time, of so many terminals among the nodes.
-fn batch_of(terminals: usize, nodes: usize) -> usize {
-    let share = terminals.saturating_mul(NODES) / nodes.max(1);
-    share.max(LEAST_BATCH).min(MOST_BATCH)
 }
 
 // How many of the trees that are left grow at one time, if so many did so at first.

@@ -6,9 +6,10 @@
 // Radii stay even, so that all meetings stay at whole times. There is no head start for a terminal that is an open hub,
 // whose region begins to grow later.
 use super::Engine;
-use sg_forest::{Contact, End, Limit, Role};
+use sg_forest::{Contact, End, Role};
 use sg_growth::{Exit, reverse};
 use sg_slots::number;
+use sg_work::Limit;
 
 /// How terminals grow before events are entered.
 #[derive(Clone, Copy, PartialEq, Eq)]

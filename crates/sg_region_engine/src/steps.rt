@@ -2,7 +2,8 @@
 // inner blossom expands again.
 use super::Engine;
 use crate::NoMemory;
-use sg_forest::{Contact, End, Limit, Link, Role};
+use sg_forest::{Contact, End, Link, Role};
+use sg_work::Limit;
 use std::mem::swap;
 
 impl<'a, L: Limit> Engine<'a, L> {

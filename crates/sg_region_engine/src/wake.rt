@@ -1,9 +1,10 @@
 // Entering the events of arcs: to wake a node is to look at each of its arcs.
 use super::Engine;
 use crate::NoMemory;
-use sg_forest::{Limit, Reach, Role};
+use sg_forest::{Reach, Role};
 use sg_growth::{Arc, NEVER, Soon, reverse};
 use sg_slots::Slot;
+use sg_work::Limit;
 
 // An outer region that nears the end of an arc: the node at its start, the arc by its dart, and when it
 // comes.

@@ -2,8 +2,8 @@
 use Rattle.std.proofs.Common.{ℕ, ◌+◌, ◌*◌, ◌-◌, ◌≡◌, ◌≤◌, ◌^◌, Option, Some, None, IfSome, arith, min}
 use Rattle.std.proofs.lemmas.Nat.{mul-le}
 use Rattle.std.proofs.Math.Nat.{add-mul, min-le_left}
-use Rattle.sg_forest.specs.Counts.{KeepsTo, event_limit, growth_limit}
-use Rattle.sg_forest.specs.declared.growth.Growth.{Growth}
+use Rattle.sg_work.specs.Counts.{KeepsTo, event_limit, growth_limit}
+use Rattle.sg_work.specs.declared.growth.Growth.{Growth}
 use Rattle.sg_regions.specs.Steps.{Accounts, GrowthAccounts, RegionSteps, TakesRuns}
 
 -- what keeps to a multiple keeps to a greater one

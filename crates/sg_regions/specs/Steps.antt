@@ -1,7 +1,7 @@
 -- The steps of growing regions, as a proposer counts them.
 use Rattle.std.specs.Prelude.{ℕ, ◌+◌, ◌-◌, ◌*◌, ◌<◌, ◌≤◌}
-use Rattle.sg_forest.specs.Counts.{event_limit, growth_limit}
-use Rattle.sg_forest.specs.declared.growth.Growth.{Growth}
+use Rattle.sg_work.specs.Counts.{event_limit, growth_limit}
+use Rattle.sg_work.specs.declared.growth.Growth.{Growth}
 
 -- how many blossoms were made and taken apart, and how many events were taken, for so many proposals
 pub record RegionSteps : Type 0 where

@@ -1,13 +1,13 @@
 // Regions that grow until each terminal has a mate.
 ghost use Rattle.std.specs.Prelude.{◌≤◌, length, IfOk};
-ghost use Rattle.sg_forest.specs.Counts.{KeepsTo, event_limit, growth_limit};
+ghost use Rattle.sg_work.specs.Counts.{KeepsTo, event_limit, growth_limit};
 
 use super::layout::Layout;
 use super::{Grown, NoMemory};
-use sg_forest::{Allowance, Limit};
 use sg_growth::{Adjacency, Nest, Pair, first_dart};
 use sg_region_engine::{Engine, Lists, Method};
 use sg_slots::number;
+use sg_work::{Allowance, Limit};
 use std::alloc::Global;
 use std::marker::Brand;
 

@@ -1,6 +1,6 @@
 // Proposals without cuts: a T-join, and the finished regions as they are.
 ghost use Rattle.std.specs.Prelude.{◌≡◌, length, IfOk, IfSome};
-ghost use Rattle.sg_forest.specs.Counts.{KeepsTo};
+ghost use Rattle.sg_work.specs.Counts.{KeepsTo};
 ghost use Rattle.sg_regions.specs.Places.{place_count};
 ghost use Rattle.sg_regions.specs.Steps.{GrowthAccounts};
 

@@ -1,5 +1,5 @@
 ghost use Rattle.std.specs.Prelude.{◌≡◌, ◌+◌, ◌<◌, ◌≤◌, length, IfOk, IfSome, IsTrue};
-ghost use Rattle.sg_forest.specs.Counts.{KeepsTo};
+ghost use Rattle.sg_work.specs.Counts.{KeepsTo};
 ghost use Rattle.sg_regions.specs.Places.{place_count};
 ghost use Rattle.sg_regions.specs.Steps.{GrowthAccounts};
 

@@ -19,7 +19,7 @@ mod parts;
 mod repairs;
 
 pub use repairs::{Repairs, Turn};
-use sg_forest::Unlimited;
+use sg_work::Unlimited;
 use std::alloc::AllocError;
 
 // Of repairs no bound on the steps is asked.

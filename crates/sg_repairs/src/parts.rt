@@ -1,8 +1,9 @@
 // The finished regions to which an engine is put back, and runs from some of the terminals.
 use super::{Engine, NoMemory};
-use sg_forest::{Allowance, Forest, Unlimited, Work};
+use sg_forest::Forest;
 use sg_growth::{Adjacency, Cover};
 use sg_region_engine::Exit;
+use sg_work::{Allowance, Unlimited, Work};
 
 // Finished regions, none of them in a tree.
 #[derive(Drop)]

@@ -1,6 +1,6 @@
 -- The steps that a minimum T-join takes.
 use Rattle.std.specs.Prelude.{ℕ, ◌+◌, ◌*◌, ◌<◌, ◌⊎◌}
-use Rattle.sg_forest.specs.Counts.{event_limit, growth_limit}
+use Rattle.sg_work.specs.Counts.{event_limit, growth_limit}
 use Rattle.sg_regions.specs.Steps.{Accounts}
 use Rattle.sg_tjoin.specs.declared.counted.Taken.{Taken}
 

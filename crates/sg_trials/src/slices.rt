@@ -2,12 +2,12 @@
 
 use super::webs::{drawn_grid, network_of};
 use rand_pcg::Pcg32;
-use sg_forest::{Allowance, Unlimited};
 use sg_graph::{EdgeList, Terminals, Web};
 use sg_nest::proves;
 use sg_region_engine::{Engine, Method};
 use sg_region_ways::join_of;
 use sg_regions::{arcs_of, propose_nest};
+use sg_work::{Allowance, Unlimited};
 use std::alloc::{AllocError, Global};
 use std::process::Abort;
 use std::test::Fail;

@@ -3,12 +3,12 @@ use super::NoMemory;
 use super::chains::Chains;
 use super::reduced::{Reduced, Turning};
 use super::sheet::{first_dart, second_dart};
-use sg_forest::{Allowance, Unlimited};
 use sg_graph::EdgeList;
 use sg_growth::{Adjacency, Edge};
 use sg_region_engine::{Engine, Method};
 use sg_region_ways::join_of;
 use sg_slots::{Slot, entry, number, set_entry};
+use sg_work::{Allowance, Unlimited};
 use std::alloc::Global;
 
 // Numbers for the nodes of a window.

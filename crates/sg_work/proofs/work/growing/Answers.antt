@@ -1,7 +1,7 @@
 use Rattle.std.proofs.Common.{◌+◌, ◌*◌, ◌^◌, ◌-◌, ◌≤◌, arith}
 use Rattle.std.proofs.Math.Nat.{min-le_left}
-use Rattle.sg_forest.proofs.Products.{capped}
-use Rattle.sg_forest.proofs.work.growing.Goals as goal
+use Rattle.sg_work.proofs.Products.{capped}
+use Rattle.sg_work.proofs.work.growing.Goals as goal
 
 pub returns : goal.returns
 returns c =

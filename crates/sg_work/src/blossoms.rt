@@ -44,7 +44,7 @@ pub struct Blossoms<L: Limit> {
 }
 
 impl<L: Limit> Model for Blossoms<L> {
-    ghost use Rattle.sg_forest.specs.Counts.{Counts, IsCounted};
+    ghost use Rattle.sg_work.specs.Counts.{Counts, IsCounted};
 
     ghost Value = { Counts };
 

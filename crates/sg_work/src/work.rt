@@ -3,7 +3,7 @@
 // A step of work is an arc that is looked at, a part of a blossom that is moved, a node of a row that
 // is passed, a step up a tree, or an event.
 ghost use Rattle.std.specs.Prelude.{◌≡◌, ◌+◌, ◌*◌, ◌≤◌, IsFalse, IsTrue};
-ghost use Rattle.sg_forest.specs.Counts.{event_limit, growth_limit};
+ghost use Rattle.sg_work.specs.Counts.{event_limit, growth_limit};
 
 use super::limit::Limit;
 use std::marker::{Model, PhantomData};

@@ -1,7 +1,7 @@
 -- How many blossoms growing regions make and take apart, and how many events they take.
 use Rattle.std.specs.Prelude.{◌≡◌, ℕ, ◌+◌, ◌*◌, ◌/◌, ◌≤◌, nat_lt, Bool, List, count_by}
-use Rattle.sg_forest.specs.declared.blossoms.Whole.{Whole}
-use Rattle.sg_forest.specs.declared.growth.Growth.{Growth}
+use Rattle.sg_work.specs.declared.blossoms.Whole.{Whole}
+use Rattle.sg_work.specs.declared.growth.Growth.{Growth}
 
 -- how many blossoms were made, and how many of them were taken apart again
 pub record Counts : Type 0 where

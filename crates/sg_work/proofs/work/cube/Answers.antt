@@ -1,6 +1,6 @@
 use Rattle.std.proofs.Common.{◌*◌, ◌≤◌, arith}
-use Rattle.sg_forest.proofs.Products.{capped}
-use Rattle.sg_forest.proofs.work.cube.Goals as goal
+use Rattle.sg_work.proofs.Products.{capped}
+use Rattle.sg_work.proofs.work.cube.Goals as goal
 
 pub returns : goal.returns
 returns c =

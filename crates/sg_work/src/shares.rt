@@ -1,0 +1,15 @@
+// How work is dealt out: how many trees grow at one time.
+
+// About how many nodes there are for all trees that grow at one time: so many that their data fit a cache.
+const NODES: usize = 2048;
+
+// Fewer trees never grow at one time: each batch meets the terminals of those that have not grown yet.
+const LEAST_BATCH: usize = 128;
+
+const MOST_BATCH: usize = 1024;
+
+/// How many trees grow at one time, of so many terminals among the nodes.
+pub fn batch_of(terminals: usize, nodes: usize) -> usize {
+    let share = terminals.saturating_mul(NODES) / nodes.max(1);
+    share.max(LEAST_BATCH).min(MOST_BATCH)
+}
