@@ -3,7 +3,7 @@
 // Of each edge, hub and inner region one event counts, its soonest; what was entered for it before is
 // passed over when it comes. An event takes the same time for any number of edges, but for the agenda.
 use super::NoMemory;
-use super::agenda::{Agenda, Event, Subject};
+use sg_agenda::{Agenda, Event, Subject};
 use sg_slots::set_entry;
 use std::alloc::Global;
 

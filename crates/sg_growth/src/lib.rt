@@ -4,8 +4,8 @@
 //!
 //! - [`Adjacency`] has the arcs between nodes, each edge with two darts.
 //! - [`Cover`] tells which region has taken a node, and at which radius.
-//! - [`Clock`] has the time and the queue of events: at most one event for each edge, each region and
-//!   each hub. [`Hubs`] orders the arcs at nodes of high degree, so that only the soonest waits.
+//! - [`Clock`] has the time and the queue of events (`sg_agenda`): at most one event for each edge, each
+//!   region and each hub. [`Hubs`] orders the arcs at nodes of high degree, so that only the soonest waits.
 //! - [`Nest`] has the finished regions: which region took each node and when, and how they are nested.
 //!
 //! For the next engineer: nothing is promised of any value here, since callers have the result judged.
@@ -15,14 +15,12 @@
 #![tactic(auto)]
 
 mod adjacency;
-mod agenda;
 mod clock;
 mod cover;
 mod hubs;
 mod nest;
 
 pub use adjacency::{Adjacency, Arc, Edge, Exit, first_dart, reverse, second_dart};
-pub use agenda::{Event, Subject};
 pub use clock::{Clock, NEVER};
 pub use cover::{Cover, Held, Shallow};
 pub use hubs::{Hubs, Soon};
