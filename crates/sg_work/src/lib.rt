@@ -7,7 +7,8 @@
 //! - [`Blossoms`] has what each region is made of ([`Whole`]). It keeps the count of the blossoms that are
 //!   made and taken apart under an invariant, so none comes or goes uncounted.
 //! - [`Growth`] has the counts that are returned: of blossoms made and taken apart, and of events.
-//! - [`batch_of`] deals work out: how many trees grow at one time.
+//! - [`batch_of`] and [`window_of`] deal work out: how many trees grow at one time, and how large windows
+//!   are.
 //!
 //! For the next engineer: the counts are what the crates of growing regions promise, so the contracts are
 //! here, in a crate that is small. What a region is made of, and how much is dealt out, only has to be
@@ -23,7 +24,7 @@ mod work;
 pub use blossoms::{Blossoms, Whole, no_whole};
 pub use growth::Growth;
 pub use limit::{Limit, Unlimited};
-pub use shares::batch_of;
+pub use shares::{batch_of, window_of};
 use std::alloc::AllocError;
 pub use work::{Allowance, Work};
 
