@@ -1,5 +1,5 @@
 use Rattle.std.proofs.Common.{◌≡◌, ap, neg_ℤ, sym, ◌∙◌, arith}
-use Rattle.std.proofs.lemmas.Grind.{elements}
+use Rattle.std.proofs.lemmas.Grind.{elements, common_steps}
 use Rattle.sg_model.specs.Ising.{bond_at}
 use Rattle.sg_model.specs.Energy.{product}
 use Rattle.sg_bonds.proofs.CostNumbers.{kept_unit, read_bond}
@@ -15,3 +15,6 @@ gap-cost-requires-clause-other c =
 
 pub other_product-other-requires : goal.other_product-other-requires
 other_product-other-requires c = grind (arith, elements)
+
+pub turned_by-requires-clause-breaks : goal.turned_by-requires-clause-breaks
+turned_by-requires-clause-breaks c = grind (arith, common_steps)

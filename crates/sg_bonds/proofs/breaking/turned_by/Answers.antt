@@ -1,4 +1,5 @@
-use Rattle.std.proofs.Common.{rules, ◌≡◌, ◌+ℤ◌, ℤ, List, Bool, length, map, ap, sym, ◌∙◌, w64, to_z-of_z}
+use Rattle.std.proofs.Common.{rules, ◌≡◌, ◌+ℤ◌, ℤ, List, Bool, length, map, ap, sym, ◌∙◌, w64, to_z-of_z, arith}
+use Rattle.std.proofs.lemmas.Grind.{common_steps}
 use Rattle.std.proofs.lemmas.List.{length-map, with_items_is}
 use Rattle.sg_sums.specs.Sets.{is_marked}
 use Rattle.sg_model.specs.Broken.{is_broken}
@@ -28,3 +29,6 @@ returns-clause-turned c =
           c.args.found.now.bonds c.requires.breaks c.deref_mut.result.now c.flip.new.marks first (rw c.as_slice.ensures at c.flip.ensures) k l
           (ap (λ (m : List Bool). is_marked m k) (sym items) ∙ marked);
     }
+
+pub flip-requires : goal.flip-requires
+flip-requires c = grind (arith, common_steps)

@@ -1,4 +1,5 @@
 use Rattle.std.proofs.Common.{rules, ◌<◌, pos, sym, subst, ap, ◌∙◌, length, get_or, arith, w64, to_z-of_z}
+use Rattle.std.proofs.lemmas.Grind.{common_steps}
 use Rattle.std.proofs.lemmas.List.{get_or_default}
 use Rattle.sg_bonds.specs.Bounds.{IsMet, unbounded}
 use Rattle.sg_bonds.specs.Cost.{IsCost}
@@ -18,3 +19,12 @@ returns-then-branch-clause-cost c = λ are.
     subst (IsCost inst k) (sym (fits ∙ ap (λ (b : Bound). b.high) (get_or_default bounds k (just (pos 0)) unbounded here)))
     (met_cost inst c.instance.ensures.planar.instance c.args.study.now.least.now.spins c.requires.study.ground_state c.requires.study.sum bounds are k
     c.requires.bond_in met)
+
+pub note-requires-clause-ground_state : goal.note-requires-clause-ground_state
+note-requires-clause-ground_state c = grind (arith, common_steps)
+
+pub returns-then-branch-clause-narrows : goal.returns-then-branch-clause-narrows
+returns-then-branch-clause-narrows c = grind (arith, common_steps)
+
+pub returns-clause-narrows : goal.returns-clause-narrows
+returns-clause-narrows c = grind (arith, common_steps)

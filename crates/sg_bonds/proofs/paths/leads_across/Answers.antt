@@ -1,4 +1,5 @@
-use Rattle.std.proofs.Common.{rules, ◌≡◌, true, false, get_or, sym, subst, refl}
+use Rattle.std.proofs.Common.{rules, ◌≡◌, true, false, get_or, sym, subst, refl, arith}
+use Rattle.std.proofs.lemmas.Grind.{elements}
 use Rattle.sg_model.specs.declared.bond.Bond.{Bond}
 use Rattle.sg_model.specs.Ising.{bond_at}
 use Rattle.sg_model.specs.Connected.{Reached}
@@ -16,3 +17,6 @@ returns c = λ marked.
     (reached_by_walk c.args.inst.now (has c.args.set.now) c.at-ends.result.now.u c.at-ends.result.now.v c.args.inst.now.n c.args.marks.now
     c.walk.new.marks c.walk.new.order.items
     c.requires.marks c.in_ok-walk.ensures seen)
+
+pub bounds-marks-ends : goal.bounds-marks-ends
+bounds-marks-ends c = grind (arith, elements)

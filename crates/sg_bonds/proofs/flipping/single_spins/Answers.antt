@@ -1,0 +1,6 @@
+use Rattle.std.proofs.Common.{arith}
+use Rattle.std.proofs.lemmas.Grind.{elements}
+use Rattle.sg_bonds.proofs.flipping.single_spins.Goals as goal
+
+pub with_gains-requires-clause-names : goal.with_gains-requires-clause-names
+with_gains-requires-clause-names c = grind (arith, elements)

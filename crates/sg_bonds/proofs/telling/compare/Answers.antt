@@ -1,0 +1,9 @@
+use Rattle.std.proofs.Common.{arith}
+use Rattle.std.proofs.lemmas.Grind.{common_steps}
+use Rattle.sg_bonds.proofs.telling.compare.Goals as goal
+
+pub free-requires-clause-assignment : goal.free-requires-clause-assignment
+free-requires-clause-assignment c = grind (arith, common_steps)
+
+pub free-requires-clause-ground_state : goal.free-requires-clause-ground_state
+free-requires-clause-ground_state c = grind (arith, common_steps)
