@@ -1,3 +1,5 @@
+use Rattle.std.proofs.Common.{arith}
+use Rattle.std.proofs.lemmas.Grind.{common_steps}
 use Rattle.std.proofs.lemmas.Result.{IfOk-weaker}
 use Rattle.sg_ground.proofs.NestProofs.{ground_by_broken}
 use Rattle.sg_ground.proofs.nested.proves_broken.Goals as goal
@@ -9,3 +11,6 @@ returns-clause-least c =
     ground_by_broken c.args.planar.now c.whole_dual.ensures.planar c.args.spins.now c.requires.assignment c.in_ok-web.web c.in_ok-web.frustrated
     c.in_ok-broken.broken c.in_ok-web.ensures.web c.in_ok-web.ensures.frustrated (rw c.instance.ensures.value at c.in_ok-broken.ensures) (least so))
     c.proves.ensures.least
+
+pub broken_bonds-requires : goal.broken_bonds-requires
+broken_bonds-requires c = grind (arith, common_steps)
