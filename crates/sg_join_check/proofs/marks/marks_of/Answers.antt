@@ -1,0 +1,9 @@
+use Rattle.std.proofs.Common.{arith}
+use Rattle.std.proofs.lemmas.Grind.{common_steps}
+use Rattle.sg_join_check.proofs.marks.marks_of.Goals as goal
+
+pub loop-k-init : goal.loop-k-init
+loop-k-init c = grind (arith, common_steps)
+
+pub loop-k-preserved : goal.loop-k-preserved
+loop-k-preserved c = grind (arith, common_steps)
