@@ -1,5 +1,6 @@
 -- `augment`: the pairs are flipped, and no tree stands.
-use Rattle.std.proofs.Common.{rules, ◌<◌, List, None, length, sym, subst, ℕ, ◌∙◌}
+use Rattle.std.proofs.Common.{rules, ◌<◌, List, None, length, sym, subst, ℕ, ◌∙◌, arith}
+use Rattle.std.proofs.lemmas.Grind.{common_steps}
 use Rattle.std.proofs.lemmas.List.{with_items_is}
 use Rattle.std.specs.Vec.{with_items}
 use Rattle.sg_match.proofs.Engine.augment.Goals as goal
@@ -36,3 +37,6 @@ returns-clause-engine c = (after c).0
 
 pub returns-clause-less : goal.returns-clause-less
 returns-clause-less c = (after c).1
+
+pub augment_path-requires-clause-names : goal.augment_path-requires-clause-names
+augment_path-requires-clause-names c = grind (arith, common_steps)

@@ -1,5 +1,6 @@
 -- `shrink`: a cycle is shrunk, and its tree edges go.
 use Rattle.std.proofs.Common.{◌≡◌, ◌+◌, ◌<◌, ◌≤◌, ℕ, Some, length, set, sym, ap, ◌∙◌, subst, arith, rules}
+use Rattle.std.proofs.lemmas.Grind.{common_steps}
 use Rattle.sg_arena.proofs.FamilyLemmas.{length-with_slot, name_bound}
 use Rattle.sg_arena.specs.Changes.{CanShrink, blossom_of, with_slot}
 use Rattle.sg_arena.specs.Family.{Family, leaf_count}
@@ -139,3 +140,6 @@ returns-clause-less g c = subst (λ s. steps_left (last g c) + 2 ≤ steps_left 
 
 pub returns-clause-alike : goal.returns-clause-alike
 returns-clause-alike g c = omega (arith, c.shrink-blossom.ensures.taken, c.shrink-blossom.ensures.counted, ap (λ (s : State). s.family.steps) c.self.view_is)
+
+pub index_mut-requires : goal.index_mut-requires
+index_mut-requires g c = grind (arith, common_steps)

@@ -1,5 +1,6 @@
 -- `mate_of`: from the top down to the leaf's node.
 use Rattle.std.proofs.Common.{◌<◌, ◌≤◌, List, length, suc, ap, ◌∙◌, refl, subst, sym, arith}
+use Rattle.std.proofs.lemmas.Grind.{common_steps}
 use Rattle.sg_arena.proofs.FamilyLemmas.{alive_from_holds, child-smaller}
 use Rattle.sg_arena.specs.Family.{cycle_of, leaves_of}
 use Rattle.sg_arena.specs.declared.Link.{Link}
@@ -38,3 +39,15 @@ returns-clause-mate c =
     let plain : length (cycle_of f node) ≤ 0 = omega (arith, ap (λ (xs : List Link). length xs) (c.is_leaf.ensures.0 c.loop-child-test.false)) in
     let here = plain_is f c.requires.family node c.args.leaf plain c.loop-child.invariant.held in
     (c.loop-child.pair, subst (λ n. IsSetPair f c.args.pairs.now n c.loop-child.pair) (sym here) c.loop-child.invariant.pair, refl)
+
+pub offset_bounds-pairs-node : goal.offset_bounds-pairs-node
+offset_bounds-pairs-node c = grind (arith, common_steps)
+
+pub bounds : goal.bounds
+bounds c = grind (arith, common_steps)
+
+pub bounds-pairs-node : goal.bounds-pairs-node
+bounds-pairs-node c = grind (arith, common_steps)
+
+pub child-child-requires-clause-blossom : goal.child-child-requires-clause-blossom
+child-child-requires-clause-blossom c = grind (arith, common_steps)
