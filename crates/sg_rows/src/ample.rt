@@ -1,17 +1,26 @@
 // No clause says when an allocation fails. Here memory is ample: each study of each form of instance
 // must be answered, and so must each law's lattice of each kind.
 use super::laws::drawn;
-use super::runs::answer;
-use sg_cli::Status;
+use super::runs::{answer, expect_front};
+use std::alloc::Global;
+use std::process::Abort;
 use std::test::Fail;
 
+// The studies of an instance.
 const STUDIES: [&str; 8] = [
     "energy", "ground", "wall", "bonds", "clusters", "report", "ranges", "maxcut",
 ];
 
+// A study of an input must be done.
+fn expect_study<R: Abort>(rt: &R, alloc: Global, study: &str, input: &str) -> Result<(), Fail> {
+    let found = answer(alloc, study, input.as_bytes())?;
+    expect_front(rt, (study, input), &found, "");
+    Ok(())
+}
+
 #[test]
 fn each_study_of_each_form_is_answered(rt: HostRuntime) -> Result<(), Fail> {
-    let inputs = [
+    let inputs = &[
         "square,2,2\n3,4\n2,-5\nseam,0\nend\n",
         "triangular,2,2\n-1,2,-1,3\n-1\nseam,1,2\nend\n",
         "hexagonal,2,3\n4,5,6,7\n3,-8\nseam,5\nend\n",
@@ -26,16 +35,29 @@ fn each_study_of_each_form_is_answered(rt: HostRuntime) -> Result<(), Fail> {
     ];
     for input in inputs {
         for study in STUDIES {
-            let (status, _) = answer(rt.alloc(), study, input.as_bytes())?;
-            assert_eq!(rt; status, Status::Done, "{study}, {input}");
+            expect_study(&rt, rt.alloc(), study, input)?;
         }
     }
     Ok(())
 }
 
+// A command with a law, the seed 7 and a tail must be done.
+fn expect_drawing<R: Abort>(
+    rt: &R,
+    alloc: Global,
+    words: (&str, &str),
+    law: &str,
+) -> Result<(), Fail> {
+    let (command, tail) = words;
+    let line = format!(in alloc; "{command} {law} 7 {tail}")?;
+    let found = drawn(alloc, line.as_str())?;
+    expect_front(rt, (line.as_str(), "not read"), &found, "");
+    Ok(())
+}
+
 #[test]
 fn each_drawing_of_each_law_is_answered(rt: HostRuntime) -> Result<(), Fail> {
-    let tails = [
+    let tails = &[
         ("gen", "square 3 4"),
         ("gen", "triangular 3 4"),
         ("gen", "hexagonal 3 4"),
@@ -44,11 +66,9 @@ fn each_drawing_of_each_law_is_answered(rt: HostRuntime) -> Result<(), Fail> {
         ("ensemble", "3 4 2"),
         ("widths", "3 4 2"),
     ];
-    for law in ["one", "alternate", "pm", "uniform"] {
+    for law in &["one", "alternate", "pm", "uniform"] {
         for (command, tail) in tails {
-            let line = format!(in rt.alloc(); "{command} {law} 7 {tail}")?;
-            let (status, _) = drawn(rt.alloc(), line.as_str())?;
-            assert_eq!(rt; status, Status::Done, "{command} {law} 7 {tail}");
+            expect_drawing(&rt, rt.alloc(), (command, tail), law)?;
         }
     }
     Ok(())

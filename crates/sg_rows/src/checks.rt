@@ -1,6 +1,6 @@
 // Proofs that are judged. The numbers of each line were worked by hand from the definitions of a
 // packing and of the verdict.
-use super::runs::expect_row;
+use super::runs::{expect_each, expect_row, expect_rows};
 use sg_cli::Status;
 use std::alloc::Global;
 use std::process::Abort;
@@ -28,7 +28,7 @@ fn expect_check<R: Abort>(
 
 #[test]
 fn proofs_that_hold(rt: HostRuntime) -> Result<(), Fail> {
-    let rows = [
+    let rows = &[
         "square,2,2\n3,4\n2,-5\nend\nenergy,-10\nspins,1,1,-1,-1\nloop,4,0,1,2,3\nend\n",
         "square,2,2\n3,4\n2,-5\nend\nenergy,-10\nspins,1,1,-1,-1\nloop,2,0,1,2,3\nloop,2,0,1,2,3\nend\n",
         "square,2,2\n3,4\n2,-5\nend\nenergy,-10\nspins,-1,-1,1,1\nloop,1,0,1,2,3\nloop,3,0,1,2,3\nend\n",
@@ -39,15 +39,12 @@ fn proofs_that_hold(rt: HostRuntime) -> Result<(), Fail> {
         "square,1,2\n9223372036854775807\nend\nenergy,-9223372036854775807\nspins,1,1\nend\n",
         "square,2,2\n3,4\n2,-5\nend\n\n# by hand\n energy , -010,\n\tspins,+1,1,-01,-1,,\nloop,4,0,1,2,3\n# the end\nend,\n# behind it\n",
     ];
-    for input in rows {
-        expect_row(&rt, rt.alloc(), "check", input, (Status::Done, "yes\n"))?;
-    }
-    Ok(())
+    expect_each(&rt, rt.alloc(), "check", (Status::Done, "yes\n"), rows)
 }
 
 #[test]
 fn loops_that_prove_nothing(rt: HostRuntime) -> Result<(), Fail> {
-    let rows = [
+    let rows = &[
         ("end\n", "no,7,0,4\n"),
         ("loop,5,0,1,2,3\nend\n", "no,6,2,5\n"),
         ("loop,2,0,1,2,3\nend\n", "no,7,2,4\n"),
@@ -75,7 +72,7 @@ fn loops_that_prove_nothing(rt: HostRuntime) -> Result<(), Fail> {
 
 #[test]
 fn other_proofs_that_fail(rt: HostRuntime) -> Result<(), Fail> {
-    let rows = [
+    let rows = &[
         (
             "square,2,2\n3,4\n2,-5\nend\nenergy,-10\nspins,1,1\nloop,5,0,1,2,3\nend\n",
             "no,1,2\n",
@@ -101,17 +98,14 @@ fn other_proofs_that_fail(rt: HostRuntime) -> Result<(), Fail> {
             "no,7,0,18446744073709551614\n",
         ),
     ];
-    for (input, line) in rows {
-        expect_row(&rt, rt.alloc(), "check", input, (Status::No, line))?;
-    }
-    Ok(())
+    expect_rows(&rt, rt.alloc(), ("check", Status::No), rows)
 }
 
 // The proof `energy,-10`, `spins,1,1,-1,-1`, `loop,4,0,1,2,3` of the square holds. With any one of
 // its numbers changed, or a coupling, it fails.
 #[test]
 fn one_number_changed(rt: HostRuntime) -> Result<(), Fail> {
-    let rows = [
+    let rows = &[
         ("3,4\n2,-5", "-9", "1,1,-1,-1", "4,0,1,2,3", "no,2,-10\n"),
         ("3,4\n2,-5", "-11", "1,1,-1,-1", "4,0,1,2,3", "no,2,-10\n"),
         ("3,4\n2,-5", "-10", "-1,1,-1,-1", "4,0,1,2,3", "no,2,-8\n"),
@@ -148,7 +142,7 @@ fn one_number_changed(rt: HostRuntime) -> Result<(), Fail> {
 
 #[test]
 fn results_that_are_refused(rt: HostRuntime) -> Result<(), Fail> {
-    let rows = [
+    let rows = &[
         ("", "", "refused,2\n"),
         ("energy,-10\n", "", "refused,2\n"),
         (GROUND, "", "refused,2\n"),
@@ -190,7 +184,7 @@ fn results_that_are_refused(rt: HostRuntime) -> Result<(), Fail> {
 // The instance is tested before what is stated of it.
 #[test]
 fn instances_that_are_refused(rt: HostRuntime) -> Result<(), Fail> {
-    let rows = [
+    let rows = &[
         ("", "refused,2\n"),
         ("square,2,2\n3,4,2\nend\nenergy,x\n", "refused,6,3,4\n"),
         ("square,2,3\n3,4\n2,-5\nend\nenergy,x\n", "refused,6,4,7\n"),
@@ -200,8 +194,5 @@ fn instances_that_are_refused(rt: HostRuntime) -> Result<(), Fail> {
         ),
         ("square,1,2\n1\nseam,1\nend\nend\n", "refused,11,1\n"),
     ];
-    for (input, line) in rows {
-        expect_row(&rt, rt.alloc(), "check", input, (Status::Refused, line))?;
-    }
-    Ok(())
+    expect_rows(&rt, rt.alloc(), ("check", Status::Refused), rows)
 }

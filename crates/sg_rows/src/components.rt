@@ -1,7 +1,7 @@
 // Instances of several components, through every command. The numbers were worked by hand, component
 // by component.
 use super::ground::expect_ground;
-use super::runs::{answer, expect_row};
+use super::runs::{answer, expect_front, expect_lines, expect_row};
 use sg_cli::Status;
 use std::alloc::{AllocError, Global};
 use std::process::Abort;
@@ -28,7 +28,7 @@ const TORUS_BESIDE_TREE: &str =
 
 #[test]
 fn components_are_answered(rt: HostRuntime) -> Result<(), Fail> {
-    let rows = [
+    let rows = &[
         ("energy", "general,2\nend\n", "energy,0\nspins,1,1\nend\n"),
         ("energy", PAIRS, "energy,-7\nspins,1,1,1,-1\nend\n"),
         ("energy", BARE, "energy,0\nspins,1,1,1\nend\n"),
@@ -83,9 +83,7 @@ fn components_are_answered(rt: HostRuntime) -> Result<(), Fail> {
             "{\"bonds\":0,\"clusters\":[0,1,2],\"costs\":[],\"energy\":0,\"loops\":[],\"spins\":[1,1,1],\"sum\":0,\"wall\":null}\n",
         ),
     ];
-    for (line, input, text) in rows {
-        expect_row(&rt, rt.alloc(), line, input, (Status::Done, text))?;
-    }
+    expect_lines(&rt, rt.alloc(), Status::Done, rows)?;
     expect_row(
         &rt,
         rt.alloc(),
@@ -97,7 +95,7 @@ fn components_are_answered(rt: HostRuntime) -> Result<(), Fail> {
 
 #[test]
 fn a_torus_beside_a_tree_is_refused(rt: HostRuntime) -> Result<(), Fail> {
-    for line in ["energy", "ground", "wall", "bonds", "clusters", "report"] {
+    for line in &["energy", "ground", "wall", "bonds", "clusters", "report"] {
         expect_row(
             &rt,
             rt.alloc(),
@@ -106,7 +104,7 @@ fn a_torus_beside_a_tree_is_refused(rt: HostRuntime) -> Result<(), Fail> {
             (Status::Refused, "refused,15,0\n"),
         )?;
     }
-    let others = [
+    let others = &[
         (
             "general,3\nbond,0,1,3\nbond,0,1,-2\nbond,0,1,1\nrot,0,0,2,4\nrot,1,1,3,5\nend\n",
             "refused,15,0\n",
@@ -124,7 +122,7 @@ fn a_torus_beside_a_tree_is_refused(rt: HostRuntime) -> Result<(), Fail> {
 
 #[test]
 fn loops_of_all_components_prove_together(rt: HostRuntime) -> Result<(), Fail> {
-    let rows = [
+    let rows = &[
         (
             "general,3\nbond,0,1,3\nbond,0,1,-2\nbond,0,1,1\nrot,0,0,2,4\nrot,1,1,5,3\nend\n",
             "energy,-2\nspins,1,1,1\nloop,",
@@ -140,23 +138,34 @@ fn loops_of_all_components_prove_together(rt: HostRuntime) -> Result<(), Fail> {
         ),
     ];
     for (input, front) in rows {
-        expect_ground(&rt, rt.alloc(), input.as_bytes(), front.as_bytes())?;
+        expect_ground(&rt, rt.alloc(), input, front)?;
     }
     Ok(())
+}
+
+// Adds the bond of a pair.
+fn push_pair(alloc: Global, text: &mut String, pair: u32) -> Result<(), AllocError> {
+    let u = 2 * u64::from(pair);
+    let j = if pair % 2 == 0 { "1" } else { "-1" };
+    let line = format!(in alloc; "bond,{},{},{}\n", u, u + 1, j)?;
+    text.push_str(line.as_str())
+}
+
+// Adds the rotation of a spin of a pair: its one dart has its number.
+fn push_spin(alloc: Global, text: &mut String, spin: u64) -> Result<(), AllocError> {
+    let line = format!(in alloc; "rot,{spin},{spin}\n")?;
+    text.push_str(line.as_str())
 }
 
 // So many pairs of spins with a bond each, with couplings 1 and -1 in turn; the first bond is the
 // seam.
 fn pairs(alloc: Global, count: u32) -> Result<String, AllocError> {
-    let mut text = String::from_str(alloc, "general,")?;
-    text.push_str(format!(in alloc; "{}\n", 2 * u64::from(count))?.as_str())?;
-    for k in 0..count {
-        let u = 2 * u64::from(k);
-        let j = if k % 2 == 0 { "1" } else { "-1" };
-        text.push_str(format!(in alloc; "bond,{},{},{}\n", u, u + 1, j)?.as_str())?;
+    let mut text = format!(in alloc; "general,{}\n", 2 * u64::from(count))?;
+    for pair in 0..count {
+        push_pair(alloc, &mut text, pair)?;
     }
-    for dart in 0..2 * u64::from(count) {
-        text.push_str(format!(in alloc; "rot,{dart},{dart}\n")?.as_str())?;
+    for spin in 0..2 * u64::from(count) {
+        push_spin(alloc, &mut text, spin)?;
     }
     text.push_str("seam,0\nend\n")?;
     Ok(text)
@@ -171,32 +180,31 @@ fn expect_fronts<R: Abort>(
 ) -> Result<(), Fail> {
     let input = pairs(alloc, count)?;
     for (line, front) in rows {
-        let (status, text) = answer(alloc, line, input.as_bytes())?;
-        assert_eq!(rt; status, Status::Done, "{line}");
-        assert!(rt; text.as_slice().starts_with(front.as_bytes()), "{line}");
+        let found = answer(alloc, line, input.as_bytes())?;
+        expect_front(rt, (line, "pairs"), &found, front);
     }
     Ok(())
 }
 
 #[test]
 fn a_thousand_components(rt: HostRuntime) -> Result<(), Fail> {
-    let rows = [
+    let rows = &[
         ("energy", "energy,-1024\nspins,1,1,1,-1,1,1,1,-1,"),
         ("wall", "periodic,-1024\nantiperiodic,-1024\nwall,0\nend\n"),
     ];
-    expect_fronts(&rt, rt.alloc(), 1024, &rows)?;
+    expect_fronts(&rt, rt.alloc(), 1024, rows)?;
     let input = pairs(rt.alloc(), 1024)?;
     expect_ground(
         &rt,
         rt.alloc(),
-        input.as_bytes(),
-        b"energy,-1024\nspins,1,1,1,-1,",
+        input.as_str(),
+        "energy,-1024\nspins,1,1,1,-1,",
     )
 }
 
 #[test]
 fn costs_of_many_components(rt: HostRuntime) -> Result<(), Fail> {
-    let rows = [
+    let rows = &[
         ("bonds", "cost,0,2,rigid\ncost,1,2,rigid\ncost,2,2,rigid\n"),
         (
             "clusters",
@@ -204,5 +212,5 @@ fn costs_of_many_components(rt: HostRuntime) -> Result<(), Fail> {
         ),
         ("report", "{\"bonds\":24,\"clusters\":[0,0,2,2,4,4,"),
     ];
-    expect_fronts(&rt, rt.alloc(), 24, &rows)
+    expect_fronts(&rt, rt.alloc(), 24, rows)
 }

@@ -1,6 +1,6 @@
 // Joins and closed walks in weighted graphs. The weights were worked by hand: the cuts of a proof weigh
 // twice as much as the T-join, or as what the walk goes along a second time.
-use super::runs::{answer, expect_row};
+use super::runs::{answer, expect_fact, expect_front, expect_lines};
 use sg_cli::Status;
 use std::alloc::Global;
 use std::process::Abort;
@@ -38,17 +38,17 @@ fn expect_cuts<R: Abort>(
     cuts: u64,
 ) -> Result<(), Fail> {
     let (line, input, front) = row;
-    let (status, text) = answer(alloc, line, input.as_bytes())?;
-    assert_eq!(rt; status, Status::Done, "{input}");
-    assert!(rt; text.as_slice().starts_with(front.as_bytes()), "{input}");
-    assert!(rt; text.as_slice().ends_with(b"end\n"), "{input}");
-    assert_eq!(rt; cuts_weigh(text.as_slice()), cuts, "{input}");
+    let found = answer(alloc, line, input.as_bytes())?;
+    expect_front(rt, (line, input), &found, front);
+    let text = found.1.as_slice();
+    expect_fact(rt, (line, input), text.ends_with(b"end\n"));
+    expect_fact(rt, (line, input), cuts_weigh(text) == cuts);
     Ok(())
 }
 
 #[test]
 fn joins_and_tours(rt: HostRuntime) -> Result<(), Fail> {
-    let rows = [
+    let rows = &[
         (
             "tjoin",
             "graph,3\nedge,0,1,2\nedge,1,2,3\nedge,0,2,4\nterm,0,2\nend\n",
@@ -88,14 +88,14 @@ fn joins_and_tours(rt: HostRuntime) -> Result<(), Fail> {
         ),
     ];
     for (line, input, front, cuts) in rows {
-        expect_cuts(&rt, rt.alloc(), (line, input, front), cuts)?;
+        expect_cuts(&rt, rt.alloc(), (line, input, front), *cuts)?;
     }
     Ok(())
 }
 
 #[test]
 fn graphs_that_are_refused(rt: HostRuntime) -> Result<(), Fail> {
-    let rows = [
+    let rows = &[
         (
             "tjoin",
             "graph,2\nedge,0,1,5\nterm,0\nend\n",
@@ -162,8 +162,5 @@ fn graphs_that_are_refused(rt: HostRuntime) -> Result<(), Fail> {
         ),
         ("postman", "square,1,1\nend\n", "refused,4,0\n"),
     ];
-    for (line, input, text) in rows {
-        expect_row(&rt, rt.alloc(), line, input, (Status::Refused, text))?;
-    }
-    Ok(())
+    expect_lines(&rt, rt.alloc(), Status::Refused, rows)
 }

@@ -1,6 +1,6 @@
 // Ground states with their proof: `check` judges what `ground` prints, behind the instance that it
 // belongs to.
-use super::runs::answer;
+use super::runs::{answer, expect_answer, expect_front, judged};
 use sg_cli::Status;
 use std::alloc::{AllocError, Global};
 use std::process::Abort;
@@ -10,23 +10,19 @@ use std::test::Fail;
 pub fn expect_ground<R: Abort>(
     rt: &R,
     alloc: Global,
-    input: &[u8],
-    front: &[u8],
+    input: &str,
+    front: &str,
 ) -> Result<(), Fail> {
-    let (status, text) = answer(alloc, "ground", input)?;
-    assert_eq!(rt; status, Status::Done);
-    assert!(rt; text.as_slice().starts_with(front));
-    let mut proof = Vec::from_slice(alloc, input)?;
-    proof.extend_from_slice(text.as_slice())?;
-    let (verdict, line) = answer(alloc, "check", proof.as_slice())?;
-    assert_eq!(rt; verdict, Status::Done);
-    assert_eq!(rt; line.as_slice(), b"yes\n".as_slice());
+    let found = answer(alloc, "ground", input.as_bytes())?;
+    expect_front(rt, ("ground", input), &found, front);
+    let verdict = judged(alloc, input.as_bytes(), found.1.as_slice())?;
+    expect_answer(rt, ("check", input), &verdict, (Status::Done, "yes\n"));
     Ok(())
 }
 
 #[test]
 fn ground_states_are_proved(rt: HostRuntime) -> Result<(), Fail> {
-    let rows = [
+    let rows = &[
         ("square,1,1\nend\n", "energy,0\nspins,1\nend\n"),
         ("square,1,2\n-3\nend\n", "energy,-3\nspins,1,-1\nend\n"),
         (
@@ -64,24 +60,24 @@ fn ground_states_are_proved(rt: HostRuntime) -> Result<(), Fail> {
         ),
     ];
     for (input, front) in rows {
-        expect_ground(&rt, rt.alloc(), input.as_bytes(), front.as_bytes())?;
+        expect_ground(&rt, rt.alloc(), input, front)?;
     }
     Ok(())
 }
 
 // A lattice whose couplings are all the same.
-fn uniform(alloc: Global, head: &str, coupling: &str, bonds: u32) -> Result<Vec<u8>, AllocError> {
-    let mut text = Vec::from_slice(alloc, head.as_bytes())?;
+fn uniform(alloc: Global, head: &str, coupling: &str, bonds: u32) -> Result<String, AllocError> {
+    let mut text = String::from_str(alloc, head)?;
     for _ in 0..bonds {
-        text.extend_from_slice(coupling.as_bytes())?;
+        text.push_str(coupling)?;
     }
-    text.extend_from_slice(b"end\n")?;
+    text.push_str("end\n")?;
     Ok(text)
 }
 
 #[test]
 fn a_thousand_spins(rt: HostRuntime) -> Result<(), Fail> {
-    let rows = [
+    let rows = &[
         ("square,32,32\n", "1\n", 1984, "energy,-1984\nspins,1,1,1,"),
         (
             "square,1,1024\n",
@@ -91,8 +87,8 @@ fn a_thousand_spins(rt: HostRuntime) -> Result<(), Fail> {
         ),
     ];
     for (head, coupling, bonds, front) in rows {
-        let input = uniform(rt.alloc(), head, coupling, bonds)?;
-        expect_ground(&rt, rt.alloc(), input.as_slice(), front.as_bytes())?;
+        let input = uniform(rt.alloc(), head, coupling, *bonds)?;
+        expect_ground(&rt, rt.alloc(), input.as_str(), front)?;
     }
     Ok(())
 }

@@ -1,54 +1,53 @@
 // What can be done to a run: devices that fail at each call, inputs cut at each byte, and inputs with
 // a byte changed. The lines for the cut inputs come from another program that follows the rules of the
 // formats.
-use super::runs::{answer, calls, expect_row, no_laws, words};
-use sg_cli::{Status, run};
-use sg_io::{CallList, MemSink, MemSource};
-use sg_model::{Fault, Instance};
+use super::runs::{Answer, Devices, answer, expect_fact, expect_rows, run_over};
+use sg_cli::Status;
+use sg_model::{Bond, Fault, Instance};
 use sg_reader::{Rows, read_instance};
 use std::alloc::{AllocError, Global};
+use std::process::Abort;
 use std::test::Fail;
 
 const SQUARE: &str = "square,2,2\n3,4\n2,-5\nend\n";
 
 const SQUARE_ANSWER: &str = "energy,-10\nspins,1,1,-1,-1\nend\n";
 
-// A sink with so much room, which takes so many bytes a call, and may fail at one call.
-#[derive(Drop)]
-struct Tight {
-    room: usize,
-    piece: usize,
-    fails: Option<u64>,
+// Devices with much room that do not fail; the source gives one byte a call.
+const AMPLE: Devices = Devices {
+    read_piece: 1,
+    read_fails: None,
+    write_piece: 100,
+    write_fails: None,
+    room: 100,
+};
+
+// An answer that belongs to a place in a row of tests must be this.
+fn expect_at<R: Abort>(rt: &R, place: usize, found: &Answer, wanted: (Status, &[u8])) {
+    let is_wanted = found.0 == wanted.0 && found.1.as_slice() == wanted.1;
+    assert!(rt; is_wanted, "{place}");
 }
 
-// The status of `energy` on the square over devices that fail, and what was written. The source gives
-// one byte a call.
-fn over(alloc: Global, read_fails: Option<u64>, tight: &Tight) -> Result<(Status, Vec<u8>), Fail> {
-    let words = words(alloc, "energy")?;
-    let bytes = Vec::from_slice(alloc, SQUARE.as_bytes())?;
-    let mut source = MemSource::new(bytes, 1, calls(alloc, read_fails)?);
-    let piece = tight.piece.max(1);
-    let mut sink = MemSink::new(alloc, tight.room, piece, calls(alloc, tight.fails)?)?;
-    let laws = no_laws(alloc);
-    let status = run(alloc, words.as_slice(), &mut source, &mut sink, laws);
-    Ok((status, Vec::from_slice(alloc, sink.bytes())?))
+// The status of `energy` on the square over devices, and what was written.
+fn over(alloc: Global, devices: Devices) -> Result<Answer, AllocError> {
+    run_over(alloc, "energy", SQUARE, &devices)
 }
 
 #[test]
 fn each_read_fails(rt: HostRuntime) -> Result<(), Fail> {
-    let ample = Tight {
-        room: 100,
-        piece: 100,
-        fails: None,
-    };
-    for call in 0..25u64 {
-        let (status, text) = over(rt.alloc(), Some(call), &ample)?;
-        assert_eq!(rt; status, Status::ReadFault, "{call}");
-        assert_eq!(rt; text.as_slice(), b"".as_slice(), "{call}");
+    for call in 0..=25 {
+        let devices = Devices {
+            read_fails: Some(call as u64),
+            ..AMPLE
+        };
+        let found = over(rt.alloc(), devices)?;
+        let wanted = if call < 25 {
+            (Status::ReadFault, b"".as_slice())
+        } else {
+            (Status::Done, SQUARE_ANSWER.as_bytes())
+        };
+        expect_at(&rt, call, &found, wanted);
     }
-    let (status, text) = over(rt.alloc(), Some(25), &ample)?;
-    assert_eq!(rt; status, Status::Done);
-    assert_eq!(rt; text.as_slice(), SQUARE_ANSWER.as_bytes());
     Ok(())
 }
 
@@ -56,35 +55,31 @@ fn each_read_fails(rt: HostRuntime) -> Result<(), Fail> {
 fn each_write_fails(rt: HostRuntime) -> Result<(), Fail> {
     let whole = SQUARE_ANSWER.as_bytes();
     for length in 0..whole.len() {
-        let failing = Tight {
-            room: 100,
-            piece: 1,
-            fails: Some(length as u64),
+        let failing = Devices {
+            write_piece: 1,
+            write_fails: Some(length as u64),
+            ..AMPLE
         };
-        let full = Tight {
+        let full = Devices {
             room: length,
-            piece: 100,
-            fails: None,
+            ..AMPLE
         };
-        for tight in [failing, full] {
-            let (status, text) = over(rt.alloc(), None, &tight)?;
-            assert_eq!(rt; status, Status::WriteFault, "{length}");
-            assert_eq!(rt; text.as_slice(), &whole[..length], "{length}");
+        for devices in [failing, full] {
+            let found = over(rt.alloc(), devices)?;
+            expect_at(&rt, length, &found, (Status::WriteFault, &whole[..length]));
         }
     }
-    let just = Tight {
+    let just = Devices {
         room: whole.len(),
-        piece: 100,
-        fails: None,
+        ..AMPLE
     };
-    let (status, text) = over(rt.alloc(), None, &just)?;
-    assert_eq!(rt; status, Status::Done);
-    assert_eq!(rt; text.as_slice(), whole);
+    let found = over(rt.alloc(), just)?;
+    expect_at(&rt, whole.len(), &found, (Status::Done, whole));
     Ok(())
 }
 
 // An input, and the first line of the answer to so many of its bytes and more.
-#[derive(Drop)]
+#[derive(Clone, Copy)]
 struct Growing {
     command: &'static str,
     input: &'static str,
@@ -232,18 +227,20 @@ fn line_at(lines: &[(usize, &'static str)], length: usize) -> &'static str {
     found
 }
 
+// The answer to so many bytes of an input must begin with this line.
+fn expect_line<R: Abort>(rt: &R, cut: (&str, usize), found: &Answer, line: &str) {
+    let begins = found.1.as_slice().starts_with(line.as_bytes());
+    assert!(rt; begins, "{}, {}", cut.0, cut.1);
+}
+
 #[test]
 fn each_input_is_cut(rt: HostRuntime) -> Result<(), Fail> {
     for growing in &GROWING {
         let bytes = growing.input.as_bytes();
         for length in 0..=bytes.len() {
-            let (_, text) = answer(rt.alloc(), growing.command, &bytes[..length])?;
+            let found = answer(rt.alloc(), growing.command, &bytes[..length])?;
             let line = line_at(growing.lines, length);
-            assert!(rt;
-                text.starts_with(line.as_bytes()),
-                "{}, {length}",
-                growing.input
-            );
+            expect_line(&rt, (growing.input, length), &found, line);
         }
     }
     Ok(())
@@ -253,8 +250,7 @@ fn each_input_is_cut(rt: HostRuntime) -> Result<(), Fail> {
 fn written(alloc: Global, inst: &Instance) -> Result<String, AllocError> {
     let mut text = format!(in alloc; "general,{}\n", inst.n())?;
     for bond in inst.bonds().as_slice() {
-        let line = format!(in alloc; "bond,{},{},{}\n", bond.u, bond.v, bond.j)?;
-        text.push_str(line.as_str())?;
+        push_bond(alloc, &mut text, bond)?;
     }
     for spin in 0..inst.n() {
         let darts = inst.rotation().at(spin as usize);
@@ -263,6 +259,18 @@ fn written(alloc: Global, inst: &Instance) -> Result<String, AllocError> {
     push_numbers(alloc, &mut text, "seam", None, inst.seam().as_slice())?;
     text.push_str("end\n")?;
     Ok(text)
+}
+
+// Adds the line of a bond.
+fn push_bond(alloc: Global, text: &mut String, bond: &Bond) -> Result<(), AllocError> {
+    let line = format!(in alloc; "bond,{},{},{}\n", bond.u, bond.v, bond.j)?;
+    text.push_str(line.as_str())
+}
+
+// Adds a number behind a comma.
+fn push_field(alloc: Global, text: &mut String, number: u32) -> Result<(), AllocError> {
+    let field = format!(in alloc; ",{number}")?;
+    text.push_str(field.as_str())
 }
 
 // Adds a word and numbers, unless there is none behind the first.
@@ -277,23 +285,59 @@ fn push_numbers(
         return Ok(());
     }
     text.push_str(word)?;
-    for number in first.iter().chain(others.iter()) {
-        let field = format!(in alloc; ",{number}")?;
-        text.push_str(field.as_str())?;
+    if let Some(number) = first {
+        push_field(alloc, text, number)?;
+    }
+    for number in others {
+        push_field(alloc, text, *number)?;
     }
     text.push_str("\n")
 }
 
-// The instance that a text gives, written out as a general one; nothing where it gives none.
-fn reads_as(alloc: Global, input: &[u8]) -> Result<Option<String>, AllocError> {
+// The instance that a text of less than 2^20 bytes gives.
+fn instance(alloc: Global, input: &[u8]) -> Result<Instance, Fault> {
     if input.len() >= 1 << 20 {
-        return Ok(None);
+        return Err(Fault::NoMemory);
     }
-    match read_instance(alloc, &mut Rows::new(alloc, input)) {
+    read_instance(alloc, &mut Rows::new(alloc, input))
+}
+
+// That instance, written out as a general one; nothing where there is none.
+fn reads_as(alloc: Global, input: &[u8]) -> Result<Option<String>, AllocError> {
+    match instance(alloc, input) {
         Ok(inst) => Ok(Some(written(alloc, &inst)?)),
         Err(Fault::Refused(_)) => Ok(None),
         Err(Fault::NoMemory) => Err(AllocError),
     }
+}
+
+// The answer to what is read of a text and written out; nothing where the text gives no instance.
+fn answer_again(alloc: Global, input: &[u8]) -> Result<Option<Vec<u8>>, Fail> {
+    match reads_as(alloc, input)? {
+        Some(again) => Ok(Some(answer(alloc, "energy", again.as_bytes())?.1)),
+        None => Ok(None),
+    }
+}
+
+// Whether a text is refused, or what is read of it and written out has the same answer.
+fn is_refused_or_same(alloc: Global, input: &[u8]) -> Result<bool, Fail> {
+    let (status, text) = answer(alloc, "energy", input)?;
+    if status != Status::Done {
+        return Ok(status == Status::Refused);
+    }
+    match answer_again(alloc, input)? {
+        Some(again) => Ok(again.as_slice() == text.as_slice()),
+        None => Ok(false),
+    }
+}
+
+// The bytes of a text, with another one at a place.
+fn changed(alloc: Global, text: &str, place: usize, byte: u8) -> Result<Vec<u8>, AllocError> {
+    let mut bytes = Vec::from_slice(alloc, text.as_bytes())?;
+    if place < bytes.len() {
+        bytes[place] = byte;
+    }
+    Ok(bytes)
 }
 
 const TELLING: &[u8] = b"\"\n-0";
@@ -304,18 +348,9 @@ fn each_byte_is_changed(rt: HostRuntime) -> Result<(), Fail> {
     for growing in &GROWING[..5] {
         for place in 0..growing.input.len() {
             for byte in TELLING {
-                let mut bytes = Vec::from_slice(rt.alloc(), growing.input.as_bytes())?;
-                bytes[place] = *byte;
-                let (status, text) = answer(rt.alloc(), "energy", &bytes)?;
-                if status != Status::Done {
-                    assert_eq!(rt; status, Status::Refused);
-                    continue;
-                }
-                let Some(again) = reads_as(rt.alloc(), &bytes)? else {
-                    return Err(Fail::new("what is answered is read"));
-                };
-                let (_, same) = answer(rt.alloc(), "energy", again.as_bytes())?;
-                assert_eq!(rt; same.as_slice(), text.as_slice());
+                let bytes = changed(rt.alloc(), growing.input, place, *byte)?;
+                let is_same = is_refused_or_same(rt.alloc(), bytes.as_slice())?;
+                expect_fact(&rt, ("a byte changed", growing.input), is_same);
             }
         }
     }
@@ -324,7 +359,7 @@ fn each_byte_is_changed(rt: HostRuntime) -> Result<(), Fail> {
 
 #[test]
 fn extreme_numbers(rt: HostRuntime) -> Result<(), Fail> {
-    let rows = [
+    let rows = &[
         (
             "square,1,2\n9223372036854775807\nend\n",
             "refused,13,9223372036854775807\n",
@@ -340,8 +375,5 @@ fn extreme_numbers(rt: HostRuntime) -> Result<(), Fail> {
         ),
         ("square,18446744073709551616,1\nend\n", "refused,3,0,1\n"),
     ];
-    for (input, line) in rows {
-        expect_row(&rt, rt.alloc(), "energy", input, (Status::Refused, line))?;
-    }
-    Ok(())
+    expect_rows(&rt, rt.alloc(), ("energy", Status::Refused), rows)
 }

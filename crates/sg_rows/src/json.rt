@@ -1,13 +1,13 @@
 // Instances in JSON. The energies were worked by hand, and the lines of the refusals from the table
 // of the members.
-use super::runs::{answer, expect_row};
+use super::runs::{answer, expect_answer, expect_lines, expect_row, expect_rows};
 use sg_cli::Status;
 use std::alloc::{AllocError, Global};
 use std::test::Fail;
 
 #[test]
 fn json_instances(rt: HostRuntime) -> Result<(), Fail> {
-    let rows = [
+    let rows = &[
         (
             "energy",
             "{\"kind\":\"square\",\"rows\":2,\"cols\":2,\"couplings\":[3,4,2,-5]}",
@@ -29,15 +29,12 @@ fn json_instances(rt: HostRuntime) -> Result<(), Fail> {
             "periodic,-7\nantiperiodic,-7\nwall,0\nend\n",
         ),
     ];
-    for (line, input, text) in rows {
-        expect_row(&rt, rt.alloc(), line, input, (Status::Done, text))?;
-    }
-    Ok(())
+    expect_lines(&rt, rt.alloc(), Status::Done, rows)
 }
 
 #[test]
 fn json_that_is_refused(rt: HostRuntime) -> Result<(), Fail> {
-    let rows = [
+    let rows = &[
         ("{", "refused,18\n"),
         ("{} x", "refused,18\n"),
         ("{\"kind\":\"square\",}", "refused,18\n"),
@@ -118,12 +115,10 @@ fn json_that_is_refused(rt: HostRuntime) -> Result<(), Fail> {
             "refused,11,4\n",
         ),
     ];
-    for (input, line) in rows {
-        expect_row(&rt, rt.alloc(), "energy", input, (Status::Refused, line))?;
-    }
-    let (status, text) = answer(rt.alloc(), "energy", b"{\"kind\":\"\xFF\"}")?;
-    assert_eq!(rt; status, Status::Refused);
-    assert_eq!(rt; text.as_slice(), b"refused,18\n".as_slice());
+    expect_rows(&rt, rt.alloc(), ("energy", Status::Refused), rows)?;
+    let found = answer(rt.alloc(), "energy", b"{\"kind\":\"\xFF\"}")?;
+    let wanted = (Status::Refused, "refused,18\n");
+    expect_answer(&rt, ("energy", "a byte that is no text"), &found, wanted);
     Ok(())
 }
 
@@ -143,8 +138,8 @@ fn nested(alloc: Global, lists: u32) -> Result<String, AllocError> {
 // A nesting of 127 is read, and one of 128 is not.
 #[test]
 fn deep_json(rt: HostRuntime) -> Result<(), Fail> {
-    for (lists, line) in [(126, "refused,19,1,0\n"), (127, "refused,18\n")] {
-        let input = nested(rt.alloc(), lists)?;
+    for (lists, line) in &[(126, "refused,19,1,0\n"), (127, "refused,18\n")] {
+        let input = nested(rt.alloc(), *lists)?;
         expect_row(
             &rt,
             rt.alloc(),

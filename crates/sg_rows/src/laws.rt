@@ -2,15 +2,18 @@
 // that another implementation of their generator gives.
 ghost use Rattle.std.specs.Prelude.{codes, pos, replicate};
 
-use super::runs::{answer, answer_with, expect_row, no_laws, words};
+use super::runs::{
+    Answer, answer, answer_with, expect_answer, expect_fact, expect_front, expect_row, judged,
+    no_laws, words,
+};
 use sg_cli::{Status, answer_with_all_laws};
 use sg_laws::{Disorder, PlusMinus, Table};
-use std::alloc::Global;
+use std::alloc::{AllocError, Global};
 use std::process::Abort;
 use std::test::Fail;
 
 // The status and the text of the reply with the laws of the program.
-pub fn drawn(alloc: Global, line: &str) -> Result<(Status, Vec<u8>), Fail> {
+pub fn drawn(alloc: Global, line: &str) -> Result<Answer, Fail> {
     let words = words(alloc, line)?;
     let reply = answer_with_all_laws(alloc, words.as_slice(), b"not read")?;
     Ok((reply.status, reply.text))
@@ -23,15 +26,27 @@ fn expect_drawn<R: Abort>(
     line: &str,
     wanted: (Status, &str),
 ) -> Result<(), Fail> {
-    let (status, text) = drawn(alloc, line)?;
-    assert_eq!(rt; status, wanted.0, "{line}");
-    assert_eq!(rt; text.as_slice(), wanted.1.as_bytes(), "{line}");
+    let found = drawn(alloc, line)?;
+    expect_answer(rt, (line, "not read"), &found, wanted);
+    Ok(())
+}
+
+// Does so for each of these lines.
+fn expect_all_drawn<R: Abort>(
+    rt: &R,
+    alloc: Global,
+    lines: &[&str],
+    wanted: (Status, &str),
+) -> Result<(), Fail> {
+    for line in lines {
+        expect_drawn(rt, alloc, line, wanted)?;
+    }
     Ok(())
 }
 
 #[test]
 fn what_is_drawn(rt: HostRuntime) -> Result<(), Fail> {
-    let rows = [
+    let rows = &[
         ("gen one 0 square 1 1", "square,1,1\nend\n"),
         ("gen pm 42 square 2 2", "square,2,2\n-1,-1,1,-1\nend\n"),
         ("gen alternate 0 square 1 3", "square,1,3\n1,-1\nend\n"),
@@ -80,27 +95,22 @@ fn what_is_drawn(rt: HostRuntime) -> Result<(), Fail> {
 
 #[test]
 fn names_that_no_law_has(rt: HostRuntime) -> Result<(), Fail> {
-    for line in [
+    let lines = &[
         "sample nolaw 1 4 4",
         "gen Pm 1 square 2 2",
         "gen p 1 square 2 2",
         "ensemble nolaw 1 2 3 1",
         "widths nolaw 1 2 3 1",
-    ] {
-        expect_drawn(&rt, rt.alloc(), line, (Status::Refused, "refused,17\n"))?;
-    }
-    expect_row(
-        &rt,
-        rt.alloc(),
-        "gen one 0 square 1 1",
-        "not read",
-        (Status::Refused, "refused,17\n"),
-    )
+    ];
+    let wanted = (Status::Refused, "refused,17\n");
+    expect_all_drawn(&rt, rt.alloc(), lines, wanted)?;
+    let line = "gen one 0 square 1 1";
+    expect_row(&rt, rt.alloc(), line, "not read", wanted)
 }
 
 #[test]
 fn words_of_no_shape(rt: HostRuntime) -> Result<(), Fail> {
-    let lines = [
+    let lines = &[
         "",
         "ground x",
         "gen",
@@ -136,10 +146,8 @@ fn words_of_no_shape(rt: HostRuntime) -> Result<(), Fail> {
         "widths one 0 33 64 1",
         "widths one 0 2 3 0",
     ];
-    for line in lines {
-        expect_drawn(&rt, rt.alloc(), line, (Status::Usage, "usage\n"))?;
-    }
-    Ok(())
+    let wanted = (Status::Usage, "usage\n");
+    expect_all_drawn(&rt, rt.alloc(), lines, wanted)
 }
 
 // A law of the test's own that has the name of another: each draw is 3.
@@ -164,53 +172,74 @@ impl Disorder for Threes {
     }
 }
 
-#[test]
-fn the_first_law_of_a_name(rt: HostRuntime) -> Result<(), Fail> {
-    let alloc = rt.alloc();
+// The law of the test's own before the one whose name it has.
+fn threes_and_another(alloc: Global) -> Result<Vec<Box<dyn Disorder>>, AllocError> {
     let mut laws = no_laws(alloc);
     laws.push(Box::new(alloc, Threes {})?)?;
     laws.push(Box::new(alloc, PlusMinus::new())?)?;
-    let (status, text) = answer_with(alloc, "gen pm 42 square 1 2", b"", laws)?;
-    assert_eq!(rt; status, Status::Done);
-    assert_eq!(rt; text.as_slice(), b"square,1,2\n3\nend\n".as_slice());
+    Ok(laws)
+}
+
+#[test]
+fn the_first_law_of_a_name(rt: HostRuntime) -> Result<(), Fail> {
+    let line = "gen pm 42 square 1 2";
+    let laws = threes_and_another(rt.alloc())?;
+    let found = answer_with(rt.alloc(), line, b"", laws)?;
+    let wanted = (Status::Done, "square,1,2\n3\nend\n");
+    expect_answer(&rt, (line, "the test's own law"), &found, wanted);
     Ok(())
+}
+
+// A law whose draws are the entries of a table.
+fn table(alloc: Global) -> Result<Vec<Box<dyn Disorder>>, AllocError> {
+    let table = Table::new(String::from_str(alloc, "t")?, vec![in alloc; 2, -3]?);
+    let mut laws = no_laws(alloc);
+    laws.push(Box::new(alloc, table)?)?;
+    Ok(laws)
 }
 
 #[test]
 fn a_law_of_draws_from_elsewhere(rt: HostRuntime) -> Result<(), Fail> {
-    let alloc = rt.alloc();
-    let mut laws = no_laws(alloc);
-    let table = Table::new(String::from_str(alloc, "t")?, vec![in alloc; 2, -3]?);
-    laws.push(Box::new(alloc, table)?)?;
-    let (status, text) = answer_with(alloc, "gen t 1 square 1 4", b"", laws)?;
-    assert_eq!(rt; status, Status::Done);
-    assert_eq!(rt; text.as_slice(), b"square,1,4\n-3,2,-3\nend\n".as_slice());
+    let line = "gen t 1 square 1 4";
+    let found = answer_with(rt.alloc(), line, b"", table(rt.alloc())?)?;
+    let wanted = (Status::Done, "square,1,4\n-3,2,-3\nend\n");
+    expect_answer(&rt, (line, "draws from elsewhere"), &found, wanted);
+    Ok(())
+}
+
+// A line of a text by its number.
+fn line_of(text: &[u8], number: usize) -> Option<&[u8]> {
+    text.split(|byte| *byte == b'\n').nth(number)
+}
+
+const SAMPLE: &str = "sample pm 7 32 32";
+
+// A sample is drawn again as it was drawn.
+fn expect_same_again<R: Abort>(rt: &R, alloc: Global, sample: &[u8]) -> Result<(), Fail> {
+    let again = drawn(alloc, SAMPLE)?;
+    expect_fact(rt, (SAMPLE, "again"), again.1.as_slice() == sample);
+    Ok(())
+}
+
+// `ground` has the energy of the sample, and proves it.
+fn expect_same_energy<R: Abort>(rt: &R, alloc: Global, sample: &[u8]) -> Result<(), Fail> {
+    let instance = drawn(alloc, "gen pm 7 square 32 32")?;
+    let ground = answer(alloc, "ground", instance.1.as_slice())?;
+    let energy = line_of(ground.1.as_slice(), 0);
+    expect_fact(rt, (SAMPLE, "an energy"), energy.is_some());
+    expect_fact(rt, (SAMPLE, "its energy"), energy == line_of(sample, 3));
+    let verdict = judged(alloc, instance.1.as_slice(), ground.1.as_slice())?;
+    let wanted = (Status::Done, "yes\n");
+    expect_answer(rt, ("check", SAMPLE), &verdict, wanted);
     Ok(())
 }
 
 // The energy of a sample is that of `ground` on the same draws as an instance, and is proved there.
 #[test]
 fn a_sample_and_its_instance(rt: HostRuntime) -> Result<(), Fail> {
-    let alloc = rt.alloc();
-    let (_, sample) = drawn(alloc, "sample pm 7 32 32")?;
-    let (_, again) = drawn(alloc, "sample pm 7 32 32")?;
-    assert_eq!(rt; sample.as_slice(), again.as_slice());
-    assert!(rt;
-        sample
-            .as_slice()
-            .starts_with(b"spins,1024\nbonds,1984\nsum,1984\nenergy,-")
-    );
-    let (_, instance) = drawn(alloc, "gen pm 7 square 32 32")?;
-    let (_, ground) = answer(alloc, "ground", instance.as_slice())?;
-    let energy = ground.as_slice().split(|byte| *byte == b'\n').nth(0);
-    assert!(rt; energy.is_some());
-    assert_eq!(rt;
-        energy,
-        sample.as_slice().split(|byte| *byte == b'\n').nth(3)
-    );
-    let mut proof = Vec::from_slice(alloc, instance.as_slice())?;
-    proof.extend_from_slice(ground.as_slice())?;
-    let (_, verdict) = answer(alloc, "check", proof.as_slice())?;
-    assert_eq!(rt; verdict.as_slice(), b"yes\n".as_slice());
-    Ok(())
+    let sample = drawn(rt.alloc(), SAMPLE)?;
+    let front = "spins,1024\nbonds,1984\nsum,1984\nenergy,-";
+    expect_front(&rt, (SAMPLE, ""), &sample, front);
+    expect_same_again(&rt, rt.alloc(), sample.1.as_slice())?;
+    expect_same_energy(&rt, rt.alloc(), sample.1.as_slice())
 }

@@ -1,25 +1,22 @@
 // Numbers in fields, and a spreadsheet's export. The energies were worked by hand.
-use super::runs::expect_row;
+use super::runs::expect_each;
 use sg_cli::Status;
 use std::test::Fail;
 
 #[test]
 fn numbers_that_are_read(rt: HostRuntime) -> Result<(), Fail> {
-    let rows = [
+    let rows = &[
         "square,1,2\n+5\nend\nenergy,-5\nspins,1,1\nend\n",
         "square,1,2\n-007\nend\nenergy,-7\nspins,1,-1\nend\n",
         "square,1,2\n-9223372036854775807\nend\nenergy,-9223372036854775807\nspins,1,-1\nend\n",
         "# a spreadsheet's export\nsquare,2,2,\n 3 ,\t4,\n2,-5,,\nseam,0\nend\nenergy,-10\nspins,1,1,-1,-1\nloop,4,0,1,2,3\nend\n",
     ];
-    for input in rows {
-        expect_row(&rt, rt.alloc(), "check", input, (Status::Done, "yes\n"))?;
-    }
-    Ok(())
+    expect_each(&rt, rt.alloc(), "check", (Status::Done, "yes\n"), rows)
 }
 
 #[test]
 fn numbers_that_are_none(rt: HostRuntime) -> Result<(), Fail> {
-    let rows = [
+    let rows = &[
         "square,1,2\n-\nend\n",
         "square,1,2\n+\nend\n",
         "square,1,2\n5.\nend\n",
@@ -29,14 +26,6 @@ fn numbers_that_are_none(rt: HostRuntime) -> Result<(), Fail> {
         "square,1,2\n9223372036854775808\nend\n",
         "square,1,2\n-9223372036854775808\nend\n",
     ];
-    for input in rows {
-        expect_row(
-            &rt,
-            rt.alloc(),
-            "check",
-            input,
-            (Status::Refused, "refused,3,1,0\n"),
-        )?;
-    }
-    Ok(())
+    let wanted = (Status::Refused, "refused,3,1,0\n");
+    expect_each(&rt, rt.alloc(), "check", wanted, rows)
 }

@@ -1,5 +1,5 @@
 // Turning couplings and largest cuts.
-use super::runs::{answer, expect_row};
+use super::runs::{answer, expect_answer, expect_front, expect_row, expect_rows, judged};
 use sg_cli::Status;
 use std::alloc::Global;
 use std::process::Abort;
@@ -7,7 +7,7 @@ use std::test::Fail;
 
 #[test]
 fn turning_couplings(rt: HostRuntime) -> Result<(), Fail> {
-    let rows = [
+    let rows = &[
         (
             "cylinder,1,3\n5,7,-2\nend\n",
             "turn,0,2,above\nturn,1,2,above\nturn,2,-5,above\nend\n",
@@ -19,15 +19,12 @@ fn turning_couplings(rt: HostRuntime) -> Result<(), Fail> {
         ("square,1,2\n-3\nend\n", "turn,0,0,below\nend\n"),
         ("square,1,1\nend\n", "end\n"),
     ];
-    for (input, wanted) in rows {
-        expect_row(&rt, rt.alloc(), "ranges", input, (Status::Done, wanted))?;
-    }
-    Ok(())
+    expect_rows(&rt, rt.alloc(), ("ranges", Status::Done), rows)
 }
 
 #[test]
 fn largest_cuts(rt: HostRuntime) -> Result<(), Fail> {
-    let rows = [
+    let rows = &[
         (
             Status::Done,
             "square,1,2\n5\nend\n",
@@ -45,7 +42,7 @@ fn largest_cuts(rt: HostRuntime) -> Result<(), Fail> {
         ),
     ];
     for (status, input, wanted) in rows {
-        expect_row(&rt, rt.alloc(), "maxcut", input, (status, wanted))?;
+        expect_row(&rt, rt.alloc(), "maxcut", input, (*status, wanted))?;
     }
     Ok(())
 }
@@ -53,18 +50,19 @@ fn largest_cuts(rt: HostRuntime) -> Result<(), Fail> {
 // Runs `maxcut` on the frustrated square, and has its loops judged as those of the instance with every
 // sign changed, whose energy is 4 - 2 * 7.
 fn expect_square_cut<R: Abort>(rt: &R, alloc: Global) -> Result<(), Fail> {
-    let (status, text) = answer(alloc, "maxcut", b"square,2,2\n3,4\n2,-5\nend\n")?;
-    assert_eq!(rt; status, Status::Done);
-    let behind = text
-        .as_slice()
-        .strip_prefix(b"cut,7\n".as_slice())
-        .unwrap_or(b"");
-    assert!(rt; behind.starts_with(b"spins,1,-1,1,-1\nloop,"));
-    let mut proof = Vec::from_slice(alloc, b"square,2,2\n-3,-4\n-2,5\nend\nenergy,-10\n")?;
-    proof.extend_from_slice(behind)?;
-    let (verdict, line) = answer(alloc, "check", proof.as_slice())?;
-    assert_eq!(rt; verdict, Status::Done);
-    assert_eq!(rt; line.as_slice(), b"yes\n".as_slice());
+    let square = "square,2,2\n3,4\n2,-5\nend\n";
+    let found = answer(alloc, "maxcut", square.as_bytes())?;
+    expect_front(
+        rt,
+        ("maxcut", square),
+        &found,
+        "cut,7\nspins,1,-1,1,-1\nloop,",
+    );
+    let cut = b"cut,7\n".as_slice();
+    let behind = found.1.as_slice().strip_prefix(cut).unwrap_or(b"");
+    let negated = "square,2,2\n-3,-4\n-2,5\nend\nenergy,-10\n";
+    let verdict = judged(alloc, negated.as_bytes(), behind)?;
+    expect_answer(rt, ("check", negated), &verdict, (Status::Done, "yes\n"));
     Ok(())
 }
 

@@ -1,5 +1,5 @@
 // Inputs that are refused, with the line of their first fault.
-use super::runs::answer;
+use super::runs::{answer, expect_answer};
 use sg_cli::Status;
 use std::alloc::{AllocError, Global};
 use std::process::Abort;
@@ -7,15 +7,22 @@ use std::test::Fail;
 
 // Runs `energy` and compares the line of the refusal.
 fn expect_refusal<R: Abort>(rt: &R, alloc: Global, input: &[u8], line: &str) -> Result<(), Fail> {
-    let (status, text) = answer(alloc, "energy", input)?;
-    assert_eq!(rt; status, Status::Refused, "{line}");
-    assert_eq!(rt; text.as_slice(), line.as_bytes(), "{line}");
+    let found = answer(alloc, "energy", input)?;
+    expect_answer(rt, ("energy", line), &found, (Status::Refused, line));
+    Ok(())
+}
+
+// Does so for each input.
+fn expect_refusals<R: Abort>(rt: &R, alloc: Global, rows: &[(&str, &str)]) -> Result<(), Fail> {
+    for (input, line) in rows {
+        expect_refusal(rt, alloc, input.as_bytes(), line)?;
+    }
     Ok(())
 }
 
 #[test]
 fn lattices_that_are_refused(rt: HostRuntime) -> Result<(), Fail> {
-    let rows = [
+    let rows = &[
         (
             "square,1,2\n17592186044417\nend\n",
             "refused,13,17592186044417\n",
@@ -35,19 +42,17 @@ fn lattices_that_are_refused(rt: HostRuntime) -> Result<(), Fail> {
         ("cylinder,1,2\n1,1\nend\n", "refused,3,0,2\n"),
         ("square,1,2\n-9223372036854775808\nend\n", "refused,3,1,0\n"),
     ];
-    for (input, line) in rows {
-        expect_refusal(&rt, rt.alloc(), input.as_bytes(), line)?;
-    }
-    let (status, text) = answer(rt.alloc(), "wall", b"square,1,1\nend\n")?;
-    assert_eq!(rt; status, Status::Refused);
-    assert_eq!(rt; text.as_slice(), b"refused,16\n".as_slice());
+    expect_refusals(&rt, rt.alloc(), rows)?;
+    let found = answer(rt.alloc(), "wall", b"square,1,1\nend\n")?;
+    let wanted = (Status::Refused, "refused,16\n");
+    expect_answer(&rt, ("wall", "no seam"), &found, wanted);
     Ok(())
 }
 
 // A text without a coupling is refused with the number of bonds that it needs.
 #[test]
 fn each_size_has_its_bonds(rt: HostRuntime) -> Result<(), Fail> {
-    let rows = [
+    let rows = &[
         ("square,1,3\nend\n", "refused,6,0,2\n"),
         ("square,3,1\nend\n", "refused,6,0,2\n"),
         ("square,3,4\nend\n", "refused,6,0,17\n"),
@@ -59,15 +64,12 @@ fn each_size_has_its_bonds(rt: HostRuntime) -> Result<(), Fail> {
         ("cylinder,1,3\nend\n", "refused,6,0,3\n"),
         ("cylinder,3,4\nend\n", "refused,6,0,20\n"),
     ];
-    for (input, line) in rows {
-        expect_refusal(&rt, rt.alloc(), input.as_bytes(), line)?;
-    }
-    Ok(())
+    expect_refusals(&rt, rt.alloc(), rows)
 }
 
 #[test]
 fn general_instances_that_are_refused(rt: HostRuntime) -> Result<(), Fail> {
-    let rows = [
+    let rows = &[
         ("general,2\nbond,0,0,1\nend\n", "refused,9,0\n"),
         (
             "general,2\nbond,0,1,3\nbond,0,1,-2\nbond,0,1,1\nrot,0,0,2,4\nrot,1,1,5\nend\n",
@@ -90,15 +92,12 @@ fn general_instances_that_are_refused(rt: HostRuntime) -> Result<(), Fail> {
             "refused,5,4\n",
         ),
     ];
-    for (input, line) in rows {
-        expect_refusal(&rt, rt.alloc(), input.as_bytes(), line)?;
-    }
-    Ok(())
+    expect_refusals(&rt, rt.alloc(), rows)
 }
 
 #[test]
 fn of_two_faults_the_first_is_named(rt: HostRuntime) -> Result<(), Fail> {
-    let rows = [
+    let rows = &[
         ("cube,2\nx", "refused,4,0\n"),
         ("square,2\nx", "refused,5,0\n"),
         ("square,0,x\nend\n", "refused,3,0,1\n"),
@@ -119,10 +118,7 @@ fn of_two_faults_the_first_is_named(rt: HostRuntime) -> Result<(), Fail> {
             "refused,12,5\n",
         ),
     ];
-    for (input, line) in rows {
-        expect_refusal(&rt, rt.alloc(), input.as_bytes(), line)?;
-    }
-    Ok(())
+    expect_refusals(&rt, rt.alloc(), rows)
 }
 
 // A text of so many bonds between two spins.

@@ -1,11 +1,11 @@
 // Rows of words, input, status and text.
-use super::runs::expect_row;
+use super::runs::{expect_lines, expect_row, expect_rows};
 use sg_cli::Status;
 use std::test::Fail;
 
 #[test]
 fn ground_states_of_lattices(rt: HostRuntime) -> Result<(), Fail> {
-    let rows = [
+    let rows = &[
         ("square,1,1\nend\n", "energy,0\nspins,1\nend\n"),
         (
             "square,2,2\n3,4\n2,-5\nend\n",
@@ -44,15 +44,12 @@ fn ground_states_of_lattices(rt: HostRuntime) -> Result<(), Fail> {
             "energy,-10\nspins,1,1,-1,-1\nend\n",
         ),
     ];
-    for (input, text) in rows {
-        expect_row(&rt, rt.alloc(), "energy", input, (Status::Done, text))?;
-    }
-    Ok(())
+    expect_rows(&rt, rt.alloc(), ("energy", Status::Done), rows)
 }
 
 #[test]
 fn walls_bonds_clusters_and_reports(rt: HostRuntime) -> Result<(), Fail> {
-    let rows = [
+    let rows = &[
         (
             "wall",
             "cylinder,1,3\n5,7,2\nend\n",
@@ -99,15 +96,12 @@ fn walls_bonds_clusters_and_reports(rt: HostRuntime) -> Result<(), Fail> {
             "{\"bonds\":0,\"clusters\":[0],\"costs\":[],\"energy\":0,\"loops\":[],\"spins\":[1],\"sum\":0,\"wall\":null}\n",
         ),
     ];
-    for (line, input, text) in rows {
-        expect_row(&rt, rt.alloc(), line, input, (Status::Done, text))?;
-    }
-    Ok(())
+    expect_lines(&rt, rt.alloc(), Status::Done, rows)
 }
 
 #[test]
 fn words_of_no_shape(rt: HostRuntime) -> Result<(), Fail> {
-    for line in ["ground x", "", "Energy", "energy energy", "energy,"] {
+    for line in &["ground x", "", "Energy", "energy energy", "energy,"] {
         expect_row(
             &rt,
             rt.alloc(),

@@ -1,10 +1,16 @@
-// One answer to words and an input, and one run over the devices in memory.
+// One answer to words and an input, one run over the devices in memory, and what must come of them.
+//
+// An assertion costs the prover most beside values that are to be dropped. Those here own nothing.
 use sg_cli::{Status, run};
 use sg_io::{CallList, MemSink, MemSource};
 use sg_laws::Disorder;
 use std::alloc::{AllocError, Global};
 use std::process::Abort;
+use std::str;
 use std::test::Fail;
+
+// The status and the text of a reply, or those of a run.
+pub type Answer = (Status, Vec<u8>);
 
 // The words as the program gets them.
 pub fn words(alloc: Global, line: &str) -> Result<Vec<String>, AllocError> {
@@ -16,7 +22,7 @@ pub fn words(alloc: Global, line: &str) -> Result<Vec<String>, AllocError> {
 }
 
 // The numbers of the calls that fail: one, or none.
-pub fn calls(alloc: Global, fail: Option<u64>) -> Result<CallList, AllocError> {
+fn calls(alloc: Global, fail: Option<u64>) -> Result<CallList, AllocError> {
     let mut list = CallList::new(alloc);
     if let Some(call) = fail {
         list.push(call)?;
@@ -30,7 +36,7 @@ pub fn no_laws(alloc: Global) -> Vec<Box<dyn Disorder>> {
 }
 
 // The status and the text of the reply.
-pub fn answer(alloc: Global, line: &str, input: &[u8]) -> Result<(Status, Vec<u8>), Fail> {
+pub fn answer(alloc: Global, line: &str, input: &[u8]) -> Result<Answer, Fail> {
     answer_with(alloc, line, input, no_laws(alloc))
 }
 
@@ -40,26 +46,102 @@ pub fn answer_with(
     line: &str,
     input: &[u8],
     laws: Vec<Box<dyn Disorder>>,
-) -> Result<(Status, Vec<u8>), Fail> {
+) -> Result<Answer, Fail> {
     let words = words(alloc, line)?;
     let reply = sg_cli::answer(alloc, words.as_slice(), input, laws)?;
     Ok((reply.status, reply.text))
 }
 
-// The status of a run without faults over devices in memory, and the text that it wrote.
-fn run_over(alloc: Global, line: &str, input: &[u8]) -> Result<(Status, Vec<u8>), Fail> {
-    let words = words(alloc, line)?;
+// What `check` says of an instance and what is stated of it.
+pub fn judged(alloc: Global, instance: &[u8], stated: &[u8]) -> Result<Answer, Fail> {
+    let mut proof = Vec::from_slice(alloc, instance)?;
+    proof.extend_from_slice(stated)?;
+    answer(alloc, "check", proof.as_slice())
+}
+
+// A source and a sink: how many bytes each takes at a call, the room of the sink, and the call of each
+// that fails.
+#[derive(Clone, Copy)]
+pub struct Devices {
+    pub read_piece: usize,
+    pub read_fails: Option<u64>,
+    pub write_piece: usize,
+    pub write_fails: Option<u64>,
+    pub room: usize,
+}
+
+// Devices that do not fail.
+const SOUND: Devices = Devices {
+    read_piece: 7,
+    read_fails: None,
+    write_piece: 5,
+    write_fails: None,
+    room: 1 << 20,
+};
+
+// The source of these devices.
+fn source_of(alloc: Global, input: &[u8], devices: &Devices) -> Result<MemSource, AllocError> {
+    let fails = calls(alloc, devices.read_fails)?;
     let bytes = Vec::from_slice(alloc, input)?;
-    let mut source = MemSource::new(bytes, 7, CallList::new(alloc));
-    let mut sink = MemSink::new(alloc, 1 << 20, 5, CallList::new(alloc))?;
-    let status = run(
-        alloc,
-        words.as_slice(),
-        &mut source,
-        &mut sink,
-        no_laws(alloc),
-    );
+    Ok(MemSource::new(bytes, devices.read_piece.max(1), fails))
+}
+
+// Their sink.
+fn sink_of(alloc: Global, devices: &Devices) -> Result<MemSink, AllocError> {
+    let fails = calls(alloc, devices.write_fails)?;
+    MemSink::new(alloc, devices.room, devices.write_piece.max(1), fails)
+}
+
+// The status of a run of these words over the source of the devices.
+fn run_into(
+    alloc: Global,
+    line: &str,
+    input: &str,
+    devices: &Devices,
+    sink: &mut MemSink,
+) -> Result<Status, AllocError> {
+    let words = words(alloc, line)?;
+    let mut source = source_of(alloc, input.as_bytes(), devices)?;
+    let laws = no_laws(alloc);
+    Ok(run(alloc, words.as_slice(), &mut source, sink, laws))
+}
+
+// The status of a run over devices, and the text that it wrote.
+pub fn run_over(
+    alloc: Global,
+    line: &str,
+    input: &str,
+    devices: &Devices,
+) -> Result<Answer, AllocError> {
+    let mut sink = sink_of(alloc, devices)?;
+    let status = run_into(alloc, line, input, devices, &mut sink)?;
     Ok((status, Vec::from_slice(alloc, sink.bytes())?))
+}
+
+// A fact about a row must hold.
+pub fn expect_fact<R: Abort>(rt: &R, row: (&str, &str), fact: bool) {
+    assert!(rt; fact, "{}, {}", row.0, row.1);
+}
+
+// What was found, for the message of a failure.
+fn shown(found: &Answer) -> &str {
+    str::from_utf8(found.1.as_slice()).unwrap_or("no text")
+}
+
+// A row must have this status and text.
+pub fn expect_answer<R: Abort>(rt: &R, row: (&str, &str), found: &Answer, wanted: (Status, &str)) {
+    let is_wanted = found.0 == wanted.0 && found.1.as_slice() == wanted.1.as_bytes();
+    assert!(rt; is_wanted, "{}, {}: {}", row.0, row.1, shown(found));
+}
+
+// A row must be done, and its text must begin so.
+pub fn expect_front<R: Abort>(rt: &R, row: (&str, &str), found: &Answer, front: &str) {
+    let is_done = found.0 == Status::Done;
+    expect_fact(
+        rt,
+        row,
+        is_done && found.1.as_slice().starts_with(front.as_bytes()),
+    );
 }
 
 // Runs a row over devices in memory, and compares what came of it.
@@ -70,8 +152,48 @@ pub fn expect_row<R: Abort>(
     input: &str,
     wanted: (Status, &str),
 ) -> Result<(), Fail> {
-    let (status, text) = run_over(alloc, line, input.as_bytes())?;
-    assert_eq!(rt; status, wanted.0, "{line}, {input}");
-    assert_eq!(rt; text.as_slice(), wanted.1.as_bytes(), "{line}, {input}");
+    let found = run_over(alloc, line, input, &SOUND)?;
+    expect_answer(rt, (line, input), &found, wanted);
+    Ok(())
+}
+
+// Does so for each input and its text, of one command and one status.
+pub fn expect_rows<R: Abort>(
+    rt: &R,
+    alloc: Global,
+    command: (&str, Status),
+    rows: &[(&str, &str)],
+) -> Result<(), Fail> {
+    let (line, status) = command;
+    for (input, text) in rows {
+        expect_row(rt, alloc, line, input, (status, text))?;
+    }
+    Ok(())
+}
+
+// The same where each input has its command.
+pub fn expect_lines<R: Abort>(
+    rt: &R,
+    alloc: Global,
+    status: Status,
+    rows: &[(&str, &str, &str)],
+) -> Result<(), Fail> {
+    for (line, input, text) in rows {
+        expect_row(rt, alloc, line, input, (status, text))?;
+    }
+    Ok(())
+}
+
+// The same where all inputs of a command have one answer.
+pub fn expect_each<R: Abort>(
+    rt: &R,
+    alloc: Global,
+    line: &str,
+    wanted: (Status, &str),
+    inputs: &[&str],
+) -> Result<(), Fail> {
+    for input in inputs {
+        expect_row(rt, alloc, line, input, wanted)?;
+    }
     Ok(())
 }

@@ -1,13 +1,13 @@
 // All costs of a cylinder of twelve spins, and of a triangular strip of ten spins with its spins
 // renamed and its embedding mirrored. The numbers were found by trying all assignments in another
 // language.
-use super::runs::answer;
+use super::runs::{answer, expect_answer};
 use sg_cli::Status;
 use std::test::Fail;
 
 #[test]
 fn costs_of_larger_instances(rt: HostRuntime) -> Result<(), Fail> {
-    let rows = [
+    let rows = &[
         (
             "bonds",
             "cylinder,3,4\n4,-1,0,5,3,-5,2,-2,5,-5,-3,-4,0,2,-2,1,3,-4,4,-2\nend\n",
@@ -25,9 +25,8 @@ fn costs_of_larger_instances(rt: HostRuntime) -> Result<(), Fail> {
         ),
     ];
     for (line, input, wanted) in rows {
-        let (status, text) = answer(rt.alloc(), line, input.as_bytes())?;
-        assert_eq!(rt; status, Status::Done, "{input}");
-        assert_eq!(rt; text.as_slice(), wanted.as_bytes(), "{input}");
+        let found = answer(rt.alloc(), line, input.as_bytes())?;
+        expect_answer(&rt, (line, input), &found, (Status::Done, wanted));
     }
     Ok(())
 }

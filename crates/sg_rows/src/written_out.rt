@@ -1,12 +1,12 @@
 // Lattices, and the same ones written out as general instances. The energies were found by trying
 // all assignments in another language.
-use super::runs::answer;
+use super::runs::{answer, expect_answer};
 use sg_cli::Status;
 use std::test::Fail;
 
 #[test]
 fn lattices_written_out(rt: HostRuntime) -> Result<(), Fail> {
-    let rows = [
+    let rows = &[
         (
             "square,2,3\n4,-6,-5,6,-4,-5,3\nend\n",
             "energy,-25\nspins,1,-1,1,-1,1,1\nend\n",
@@ -41,9 +41,8 @@ fn lattices_written_out(rt: HostRuntime) -> Result<(), Fail> {
         ),
     ];
     for (input, wanted) in rows {
-        let (status, text) = answer(rt.alloc(), "energy", input.as_bytes())?;
-        assert_eq!(rt; status, Status::Done, "{input}");
-        assert_eq!(rt; text.as_slice(), wanted.as_bytes(), "{input}");
+        let found = answer(rt.alloc(), "energy", input.as_bytes())?;
+        expect_answer(&rt, ("energy", input), &found, (Status::Done, wanted));
     }
     Ok(())
 }
