@@ -1,34 +1,48 @@
 // The parts of small instances: one for each component.
+use super::facts::expect;
 use super::texts::planar;
 use sg_planar::{Part, parts};
 use std::alloc::{AllocError, Global};
 use std::test::Fail;
 
-// Of each part the number of its spins and these, the number of its bonds and these, and then the ends
-// and the coupling of each bond as the part numbers them.
+// Adds the number of a part's spins and these, the number of its bonds and these, and then the ends and
+// the coupling of each bond as the part numbers them.
+fn push_part(numbers: &mut Vec<i128>, part: &Part) -> Result<(), AllocError> {
+    numbers.push(part.spins.len() as i128)?;
+    for spin in part.spins.as_slice() {
+        numbers.push(i128::from(*spin))?;
+    }
+    numbers.push(part.bonds.len() as i128)?;
+    for bond in part.bonds.as_slice() {
+        numbers.push(i128::from(*bond))?;
+    }
+    for bond in part.planar.instance().bonds().as_slice() {
+        numbers.push(i128::from(bond.u))?;
+        numbers.push(i128::from(bond.v))?;
+        numbers.push(i128::from(bond.j))?;
+    }
+    Ok(())
+}
+
+// Does so for each part.
 fn written(alloc: Global, list: &[Part]) -> Result<Vec<i128>, AllocError> {
     let mut numbers = Vec::new(alloc);
     for part in list {
-        numbers.push(part.spins.len() as i128)?;
-        for spin in part.spins.as_slice() {
-            numbers.push(i128::from(*spin))?;
-        }
-        numbers.push(part.bonds.len() as i128)?;
-        for bond in part.bonds.as_slice() {
-            numbers.push(i128::from(*bond))?;
-        }
-        for bond in part.planar.instance().bonds().as_slice() {
-            numbers.push(i128::from(bond.u))?;
-            numbers.push(i128::from(bond.v))?;
-            numbers.push(i128::from(bond.j))?;
-        }
+        push_part(&mut numbers, part)?;
     }
     Ok(numbers)
 }
 
+// The same of the instance of a text.
+fn parts_of(alloc: Global, text: &str) -> Result<Vec<i128>, Fail> {
+    let planar = planar(alloc, text)?;
+    let list = parts(alloc, &planar)?;
+    Ok(written(alloc, list.as_slice())?)
+}
+
 #[test]
 fn each_component_is_a_part(rt: HostRuntime) -> Result<(), Fail> {
-    let rows: [(&str, &[i128]); 3] = [
+    const ROWS: [(&str, &[i128]); 3] = [
         (
             "general,4\nbond,0,1,2\nbond,2,3,-5\nrot,0,0\nrot,1,1\nrot,2,2\nrot,3,3\nend\n",
             &[2, 0, 1, 1, 0, 0, 1, 2, 2, 2, 3, 1, 1, 0, 1, -5],
@@ -41,10 +55,9 @@ fn each_component_is_a_part(rt: HostRuntime) -> Result<(), Fail> {
         ),
         ("general,2\nend\n", &[1, 0, 0, 1, 1, 0]),
     ];
-    for (text, wanted) in rows {
-        let list = parts(rt.alloc(), &planar(rt.alloc(), text)?)?;
-        let numbers = written(rt.alloc(), list.as_slice())?;
-        assert_eq!(rt; numbers.as_slice(), wanted, "{text}");
+    for (text, wanted) in &ROWS {
+        let numbers = parts_of(rt.alloc(), text)?;
+        expect(&rt, text, numbers.as_slice() == *wanted);
     }
     Ok(())
 }

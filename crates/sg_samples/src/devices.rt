@@ -1,5 +1,6 @@
 ghost use Rattle.std.specs.Prelude.{◌≤◌, IfOk};
 
+use super::facts::expect;
 use sg_io::{
     CallList, Gave, MemSink, MemSource, ReadEnd, ReadSource, Sink, Source, Took, WriteFault,
     WriteSink, put, read_all,
@@ -7,6 +8,7 @@ use sg_io::{
 use std::alloc::{AllocError, Global};
 use std::io;
 use std::io::{ErrorKind, Read, Write};
+use std::process::Abort;
 use std::test::Fail;
 
 // The list of one call, or of none.
@@ -18,36 +20,58 @@ fn calls(alloc: Global, fail: Option<u64>) -> Result<CallList, AllocError> {
     Ok(list)
 }
 
+// What is read of three bytes within a limit, where a call may fail.
+fn read_within(
+    alloc: Global,
+    limit: u8,
+    fail: Option<u64>,
+) -> Result<Result<Vec<u8>, ReadEnd>, AllocError> {
+    let fails = calls(alloc, fail)?;
+    let bytes = Vec::from_slice(alloc, b"abc")?;
+    let mut source = MemSource::new(bytes, 2, fails);
+    Ok(read_all(alloc, &mut source, limit as usize))
+}
+
 #[test]
 fn a_source_is_read_to_its_end_within_the_limit(rt: HostRuntime) -> Result<(), Fail> {
-    let cases = [
-        (3, None, Ok(b"abc".as_slice())),
-        (2, None, Err(ReadEnd::TooLong)),
-        (3, Some(1), Err(ReadEnd::ReadFault)),
+    let whole = read_within(rt.alloc(), 3, None)?;
+    let is_whole = whole.is_ok_and(|found| found.as_slice() == b"abc".as_slice());
+    expect(&rt, "the limit is met", is_whole);
+    let rows = [
+        (2, None, ReadEnd::TooLong),
+        (3, Some(1), ReadEnd::ReadFault),
     ];
-    for (limit, fail, wanted) in cases {
-        let bytes = Vec::from_slice(rt.alloc(), b"abc")?;
-        let mut source = MemSource::new(bytes, 2, calls(rt.alloc(), fail)?);
-        match (read_all(rt.alloc(), &mut source, limit), wanted) {
-            (Ok(found), Ok(wanted)) => assert_eq!(rt; found.as_slice(), wanted),
-            (Err(found), Err(wanted)) => assert_eq!(rt; found, wanted),
-            _ => panic!(rt; "another answer at the limit {limit}"),
-        }
+    for (limit, fail, wanted) in rows {
+        let found = read_within(rt.alloc(), limit, fail)?;
+        let is_wanted = found.is_err_and(|end| end == wanted);
+        expect(&rt, "another end", is_wanted);
     }
     Ok(())
 }
 
+// Whether a text is written with this answer into this room, as these bytes, where a call may fail.
+fn is_written(
+    alloc: Global,
+    room: usize,
+    fail: Option<u64>,
+    answer: Result<(), WriteFault>,
+    wanted: &str,
+) -> Result<bool, AllocError> {
+    let mut sink = MemSink::new(alloc, room, 5, calls(alloc, fail)?)?;
+    let found = put(&mut sink, b"energy,-10\n");
+    Ok(found == answer && sink.bytes() == wanted.as_bytes())
+}
+
 #[test]
 fn a_text_is_written_whole_or_up_to_the_fault(rt: HostRuntime) -> Result<(), Fail> {
-    let cases = [
-        (100, None, Ok(()), b"energy,-10\n".as_slice()),
-        (100, Some(1), Err(WriteFault), b"energ".as_slice()),
-        (7, None, Err(WriteFault), b"energy,".as_slice()),
+    let rows = [
+        (100, None, Ok(()), "energy,-10\n"),
+        (100, Some(1), Err(WriteFault), "energ"),
+        (7, None, Err(WriteFault), "energy,"),
     ];
-    for (room, fail, answer, wanted) in cases {
-        let mut sink = MemSink::new(rt.alloc(), room, 5, calls(rt.alloc(), fail)?)?;
-        assert_eq!(rt; put(&mut sink, b"energy,-10\n"), answer);
-        assert_eq!(rt; sink.bytes(), wanted);
+    for (room, fail, answer, wanted) in rows {
+        let is_wanted = is_written(rt.alloc(), room, fail, answer, wanted)?;
+        expect(&rt, wanted, is_wanted);
     }
     Ok(())
 }
@@ -89,19 +113,29 @@ impl Write for FailsOnce {
     }
 }
 
+// A read must have this answer.
+fn expect_took(rt: &impl Abort, found: Took, wanted: Took) {
+    assert_eq!(rt; found, wanted);
+}
+
+// A write must have this answer.
+fn expect_gave(rt: &impl Abort, found: Gave, wanted: Gave) {
+    assert_eq!(rt; found, wanted);
+}
+
 // One call more of the inner reader than of the source shifts the answers behind it.
 #[test]
 fn a_reader_of_std_is_a_source(rt: HostRuntime) -> Result<(), Fail> {
     let mut source = ReadSource::new(b"abc".as_slice());
     let mut into = [0u8; 2];
-    assert_eq!(rt; source.read(&mut into), Took::Got(2));
-    assert_eq!(rt; into, *b"ab");
-    assert_eq!(rt; source.read(&mut into), Took::Got(1));
-    assert_eq!(rt; into[0], b'c');
-    assert_eq!(rt; source.read(&mut into), Took::End);
+    expect_took(&rt, source.read(&mut into), Took::Got(2));
+    expect(&rt, "two bytes", into == *b"ab");
+    expect_took(&rt, source.read(&mut into), Took::Got(1));
+    expect(&rt, "one byte", into[0] == b'c');
+    expect_took(&rt, source.read(&mut into), Took::End);
     let mut source = ReadSource::new(FailsOnce { calls: 0 });
     for wanted in [Took::Failed, Took::Got(1), Took::End, Took::Got(1)] {
-        assert_eq!(rt; source.read(&mut into), wanted);
+        expect_took(&rt, source.read(&mut into), wanted);
     }
     Ok(())
 }
@@ -111,16 +145,20 @@ fn a_reader_of_std_is_a_source(rt: HostRuntime) -> Result<(), Fail> {
 fn a_writer_of_std_is_a_sink(rt: HostRuntime) -> Result<(), Fail> {
     let mut written = Vec::new(rt.alloc());
     let mut sink = WriteSink::new(&mut written);
-    assert_eq!(rt; sink.write(b"abc"), Gave::Took(3));
+    expect_gave(&rt, sink.write(b"abc"), Gave::Took(3));
     drop(sink);
-    assert_eq!(rt; written.as_slice(), b"abc".as_slice());
+    expect(
+        &rt,
+        "what is written",
+        written.as_slice() == b"abc".as_slice(),
+    );
     let mut sink = WriteSink::new(FailsOnce { calls: 0 });
     for wanted in [Gave::Failed, Gave::Took(1), Gave::Failed, Gave::Took(1)] {
-        assert_eq!(rt; sink.write(b"abc"), wanted);
+        expect_gave(&rt, sink.write(b"abc"), wanted);
     }
     let mut place = [0u8; 1];
     let mut narrow = WriteSink::new(place.as_mut_slice());
-    assert_eq!(rt; narrow.write(b"abc"), Gave::Took(1));
-    assert_eq!(rt; narrow.write(b"bc"), Gave::Failed);
+    expect_gave(&rt, narrow.write(b"abc"), Gave::Took(1));
+    expect_gave(&rt, narrow.write(b"bc"), Gave::Failed);
     Ok(())
 }

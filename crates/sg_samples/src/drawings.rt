@@ -1,7 +1,8 @@
 // The faces of small drawings, traced by hand.
+use super::facts::expect;
 use super::texts::instance;
 use sg_faces::trace;
-use sg_model::Instance;
+use sg_model::{Fault, Instance};
 use std::alloc::{AllocError, Global};
 use std::test::Fail;
 
@@ -16,9 +17,15 @@ fn traced(alloc: Global, inst: &Instance) -> Result<Vec<u32>, AllocError> {
     Ok(labels)
 }
 
+// The same of the instance of a text.
+fn traced_of(alloc: Global, text: &str) -> Result<Vec<u32>, Fault> {
+    let inst = instance(alloc, text)?;
+    Ok(traced(alloc, &inst)?)
+}
+
 #[test]
 fn faces_are_labelled_by_their_least_darts(rt: HostRuntime) -> Result<(), Fail> {
-    let rows: [(&str, &[u32]); 7] = [
+    const ROWS: [(&str, &[u32]); 7] = [
         ("square,1,1\nend\n", &[1]),
         ("general,2\nend\n", &[2]),
         (
@@ -39,10 +46,9 @@ fn faces_are_labelled_by_their_least_darts(rt: HostRuntime) -> Result<(), Fail> 
             &[1, 0, 0, 0, 0, 0, 0],
         ),
     ];
-    for (text, wanted) in rows {
-        let inst = instance(rt.alloc(), text)?;
-        let labels = traced(rt.alloc(), &inst)?;
-        assert_eq!(rt; labels.as_slice(), wanted, "{text}");
+    for (text, wanted) in &ROWS {
+        let labels = traced_of(rt.alloc(), text)?;
+        expect(&rt, text, labels.as_slice() == *wanted);
     }
     Ok(())
 }

@@ -1,22 +1,34 @@
+use super::facts::expect;
 use sg_laws::{Alternate, Disorder, One, PlusMinus, Table, Uniform, draws, named, start};
-use std::alloc::Global;
+use std::alloc::{AllocError, Global};
 use std::test::Fail;
 
 // A law of a caller's own.
-fn table(alloc: Global) -> Result<Table, Fail> {
+fn table(alloc: Global) -> Result<Table, AllocError> {
     let name = String::from_str(alloc, "t")?;
     Ok(Table::new(name, vec![in alloc; 2, -3, 5]?))
 }
 
-// The first six draws of the law of this name after the seed.
-fn drawn(alloc: Global, name: &str, seed: u64) -> Result<Option<Vec<i64>>, Fail> {
-    let mut laws: Vec<Box<dyn Disorder>> = Vec::new(alloc);
+// Adds the laws of the program, and that one.
+fn push_laws(alloc: Global, laws: &mut Vec<Box<dyn Disorder>>) -> Result<(), AllocError> {
     laws.push(Box::new(alloc, One::new())?)?;
     laws.push(Box::new(alloc, Alternate::new())?)?;
     laws.push(Box::new(alloc, PlusMinus::new())?)?;
     laws.push(Box::new(alloc, Uniform::new())?)?;
     laws.push(Box::new(alloc, table(alloc)?)?)?;
-    match named(laws, name) {
+    Ok(())
+}
+
+// The law of this name.
+fn law(alloc: Global, name: &str) -> Result<Option<Box<dyn Disorder>>, AllocError> {
+    let mut laws = Vec::new(alloc);
+    push_laws(alloc, &mut laws)?;
+    Ok(named(laws, name))
+}
+
+// The first six draws of the law of this name after the seed.
+fn drawn(alloc: Global, name: &str, seed: u64) -> Result<Option<Vec<i64>>, AllocError> {
+    match law(alloc, name)? {
         Some(law) => {
             let mut law = law;
             start(&mut law, seed);
@@ -30,7 +42,7 @@ fn drawn(alloc: Global, name: &str, seed: u64) -> Result<Option<Vec<i64>>, Fail>
 // cbed606e.
 #[test]
 fn each_law_gives_its_stream(rt: HostRuntime) -> Result<(), Fail> {
-    let rows: [(&str, u64, [i64; 6]); 6] = [
+    let rows: &[(&str, u64, [i64; 6]); 6] = &[
         ("one", 7, [1, 1, 1, 1, 1, 1]),
         ("alternate", 0, [1, -1, 1, -1, 1, -1]),
         ("alternate", 7, [-1, 1, -1, 1, -1, 1]),
@@ -42,10 +54,11 @@ fn each_law_gives_its_stream(rt: HostRuntime) -> Result<(), Fail> {
         ),
         ("t", 4, [-3, 5, 2, -3, 5, 2]),
     ];
-    for (name, seed, wanted) in &rows {
+    for (name, seed, wanted) in rows {
         let found = drawn(rt.alloc(), name, *seed)?;
-        assert!(rt; found.is_some_and(|draws| draws.as_slice() == wanted.as_slice()));
+        let is_wanted = found.is_some_and(|draws| draws.as_slice() == wanted.as_slice());
+        expect(&rt, name, is_wanted);
     }
-    assert!(rt; drawn(rt.alloc(), "none", 1)?.is_none());
+    expect(&rt, "none", drawn(rt.alloc(), "none", 1)?.is_none());
     Ok(())
 }

@@ -14,6 +14,8 @@ mod drawings;
 #[cfg(test)]
 mod duals;
 #[cfg(test)]
+mod facts;
+#[cfg(test)]
 mod laws;
 #[cfg(test)]
 mod lists;

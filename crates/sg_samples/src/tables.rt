@@ -1,6 +1,7 @@
 // The darts round each spin of small lattices, drawn by hand.
+use super::facts::expect;
 use super::texts::instance;
-use sg_model::Instance;
+use sg_model::{Fault, Instance};
 use std::alloc::{AllocError, Global};
 use std::test::Fail;
 
@@ -23,9 +24,15 @@ fn written(alloc: Global, inst: &Instance) -> Result<Vec<usize>, AllocError> {
     Ok(numbers)
 }
 
+// The same of the instance of a text.
+fn written_of(alloc: Global, text: &str) -> Result<Vec<usize>, Fault> {
+    let inst = instance(alloc, text)?;
+    Ok(written(alloc, &inst)?)
+}
+
 #[test]
 fn lattices_are_laid_out_row_by_row(rt: HostRuntime) -> Result<(), Fail> {
-    let rows: [(&str, &[usize]); 4] = [
+    const ROWS: [(&str, &[usize]); 4] = [
         (
             "square,2,2\n3,4,2,-5\nend\n",
             &[2, 0, 4, 2, 1, 6, 2, 2, 5, 2, 7, 3, 0],
@@ -46,10 +53,9 @@ fn lattices_are_laid_out_row_by_row(rt: HostRuntime) -> Result<(), Fail> {
             ],
         ),
     ];
-    for (text, wanted) in rows {
-        let inst = instance(rt.alloc(), text)?;
-        let numbers = written(rt.alloc(), &inst)?;
-        assert_eq!(rt; numbers.as_slice(), wanted, "{text}");
+    for (text, wanted) in &ROWS {
+        let numbers = written_of(rt.alloc(), text)?;
+        expect(&rt, text, numbers.as_slice() == *wanted);
     }
     Ok(())
 }

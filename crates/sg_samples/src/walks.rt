@@ -3,6 +3,7 @@ ghost use Rattle.std.specs.Prelude.{◌<◌, All, IsTrue};
 ghost use Rattle.std.specs.List.Sorted.{IsStrictlyIncreasing};
 ghost use Rattle.sg_model.specs.Connected.{IsConnected};
 
+use super::facts::expect;
 use super::texts::instance;
 use sg_model::{BondList, Fault, Spins};
 use sg_planar::{Part, Planar, fits_faces, parts, spin_walk};
@@ -35,7 +36,11 @@ fn walked(
     requires { IsConnected part.now.planar.instance }
 {
     let planar = &part.planar;
-    assert!(rt; rise_below(broken, planar.instance().bonds().len()));
+    expect(
+        rt,
+        "bonds that rise",
+        rise_below(broken, planar.instance().bonds().len()),
+    );
     let list = BondList::from_vec(Vec::from_slice(alloc, broken)?);
     if !fits_faces(alloc, planar, &list)? {
         return Ok(None);
@@ -56,21 +61,21 @@ fn walked_in(
     };
     let list = parts(alloc, &planar)?;
     let all = list.as_slice();
-    assert!(rt; all.len() == 1);
+    expect(rt, "one part", all.len() == 1);
     Ok(walked(rt, alloc, &all[0], broken)?)
 }
 
 #[test]
 fn a_walk_breaks_the_bonds_of_the_list(rt: HostRuntime) -> Result<(), Fail> {
-    let rows: [(&str, &[u32], &[i8]); 2] = [
+    const ROWS: [(&str, &[u32], &[i8]); 2] = [
         ("square,1,2\n-3\nend\n", &[], &[1, -1]),
         ("square,2,2\n3,4,2,-5\nend\n", &[2], &[1, 1, -1, -1]),
     ];
-    for (text, broken, wanted) in rows {
-        match walked_in(&rt, rt.alloc(), text, broken)? {
-            None => panic!(rt; "no assignment breaks just these bonds"),
-            Some(spins) => assert_eq!(rt; spins.as_slice(), wanted, "{text}"),
-        }
+    for (text, broken, wanted) in &ROWS {
+        let found = walked_in(&rt, rt.alloc(), text, broken)?;
+        // Without spins no assignment breaks just these bonds.
+        let is_wanted = found.is_some_and(|spins| spins.as_slice() == *wanted);
+        expect(&rt, text, is_wanted);
     }
     Ok(())
 }
