@@ -11,7 +11,6 @@ use sg_slots::{entry, number, set_entry};
 use std::alloc::Global;
 
 // Lists that are used from repair to repair.
-#[derive(Drop)]
 pub struct Changes {
     alloc: Global,
     marks: EdgeMarks,
@@ -22,6 +21,21 @@ pub struct Changes {
     repair: u32,
     turned: Vec<u32>,
     walked: Vec<u32>,
+}
+
+// Explicit for the same reason as that of `Repairs`.
+impl Drop for Changes {
+    fn drop(self) {
+        let Changes {
+            alloc: _,
+            marks: _marks,
+            order: _order,
+            ways: _ways,
+            repair: _,
+            turned: _turned,
+            walked: _walked,
+        } = self;
+    }
 }
 
 impl Changes {

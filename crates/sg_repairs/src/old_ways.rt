@@ -22,7 +22,6 @@ const EMPTY: Stretch = Stretch {
 };
 
 // Of each terminal its mate. The way between two mates is kept for the one of less name.
-#[derive(Drop)]
 pub struct OldWays {
     mates: Vec<Slot>,
     // Where the edges of the way of each terminal are in the list of all.
@@ -35,6 +34,22 @@ pub struct OldWays {
     join: EdgeList,
     is_in_join: Vec<bool>,
     length: i64,
+}
+
+// Explicit for the same reason as that of `Repairs`.
+impl Drop for OldWays {
+    fn drop(self) {
+        let OldWays {
+            mates: _mates,
+            stretches: _stretches,
+            edges: _edges,
+            starts: _starts,
+            over: _over,
+            join: _join,
+            is_in_join: _is_in_join,
+            length: _,
+        } = self;
+    }
 }
 
 // The items of a list between two places.

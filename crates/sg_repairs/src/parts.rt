@@ -6,10 +6,19 @@ use sg_region_engine::Exit;
 use sg_work::{Allowance, Unlimited, Work};
 
 // Finished regions, none of them in a tree.
-#[derive(Drop)]
 pub struct Base {
     pub cover: Cover,
     pub forest: Forest<Unlimited>,
+}
+
+// Explicit for the same reason as that of `Repairs`.
+impl Drop for Base {
+    fn drop(self) {
+        let Base {
+            cover: _cover,
+            forest: _forest,
+        } = self;
+    }
 }
 
 impl Base {
