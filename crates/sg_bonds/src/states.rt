@@ -53,10 +53,19 @@ pub struct LeastBroken {
 /// The broken bonds of such a state are a minimum T-join of the frustrated faces among those that have
 /// the bond, or that do not. Regions have once grown on the dual; for each bond they are repaired, and
 /// what they then propose is judged. An instance of several components has no regions.
-#[derive(Drop)]
 pub struct BondStates<'a> {
     planar: &'a Planar,
     finder: Option<Finder>,
+}
+
+// An explicit `Drop`: otherwise every early return of an owner drops each field, and the prover pays for each.
+impl<'a> Drop for BondStates<'a> {
+    fn drop(self) {
+        let BondStates {
+            planar: _,
+            finder: _finder,
+        } = self;
+    }
 }
 
 impl<'a> Model for BondStates<'a> {
