@@ -98,7 +98,7 @@ extern "C" {
 #endif
 
 /* The version of this header. */
-#define ISING2D_VERSION "0.5.2"
+#define ISING2D_VERSION "0.5.3"
 
 /* The kinds of lattice. The cylinder's last column is joined to its first. */
 #define ISING2D_SQUARE 0
