@@ -15,10 +15,10 @@ signed-requires-2-clause-size c =
     c.bonds.result.now c.args.bond c.at.result.now c.at.ensures c.bonds.ensures.value c.instance.ensures.value in
     coupling_fits c.args.study.now.planar.now.instance good c.args.bond c.requires.bond_in c.requires.study.sum c.at.result.now.j (ap (λ (b : Bond). b.j) read)
 
-good : (c : goal.After-drop-forced-inside-8) → IsInstance c.args.study.now.planar.now.instance
+good : (c : goal.After-drop-forced-2) → IsInstance c.args.study.now.planar.now.instance
 good c = subst IsInstance c.instance.ensures.value c.bonds.ensures.instance
 
-solved : (c : goal.After-drop-forced-inside-8) → IsForcedSolve c.args.study.now.planar.now.instance c.args.bond c.args.wanted c.force-force.result
+solved : (c : goal.After-drop-forced-2) → IsForcedSolve c.args.study.now.planar.now.instance c.args.bond c.args.wanted c.force-force.result
     c.signed.result
     c.in_ok-least.least.energy c.signed-2.result c.at.result.now.j c.in_ok-forced.forced.instance c.in_ok-least.least.spins
 solved c = record {
