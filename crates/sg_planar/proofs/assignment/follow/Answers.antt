@@ -1,4 +1,5 @@
 use Rattle.std.proofs.Common.{arith, rules}
+use Rattle.std.proofs.lemmas.Grind.{elements}
 use Rattle.std.proofs.lemmas.List.{with_items_is}
 use Rattle.sg_sums.specs.Sets.{is_marked}
 use Rattle.sg_planar.proofs.FollowedBonds.{set_to_more, set_to_all}
@@ -14,3 +15,6 @@ pub returns : goal.returns
 returns c =
     set_to_all c.args.inst.now c.n.ensures.instance (is_marked c.args.unlike.now) c.args.order.now c.requires.order c.loop-spin.spin-index
     c.loop-spin.down.items (omega arith) c.loop-spin.invariant
+
+pub loop-spin-init : goal.loop-spin-init
+loop-spin-init c = grind (arith, elements)

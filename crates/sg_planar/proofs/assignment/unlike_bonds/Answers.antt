@@ -1,4 +1,5 @@
-use Rattle.std.proofs.Common.{◌≡◌, map, ◌∙◌, ap, rules}
+use Rattle.std.proofs.Common.{◌≡◌, map, ◌∙◌, ap, rules, arith}
+use Rattle.std.proofs.lemmas.Grind.{elements}
 use Rattle.std.proofs.lemmas.List.{with_items_is}
 use Rattle.sg_model.specs.Broken.{is_negative}
 use Rattle.sg_planar.proofs.FollowedBonds.{unlike_marked}
@@ -11,3 +12,9 @@ returns-clause-marks c =
     rw (with_items_is c.in_ok-unlike.unlike c.flip.new.marks (search rules))
     (unlike_marked c.args.inst.now c.args.broken.now c.requires.below c.requires.rising c.deref_mut.result.now c.flip.new.marks negative
     (rw c.as_slice-2.ensures at c.flip.ensures))
+
+pub flip-requires : goal.flip-requires
+flip-requires c = grind (arith, elements)
+
+pub returns-clause-lengths : goal.returns-clause-lengths
+returns-clause-lengths c = grind (arith, elements)

@@ -1,5 +1,6 @@
 -- The walk over all bonds of a connected instance finds all spins, each but spin 0 behind a neighbour.
 use Rattle.std.proofs.Common.{⊎_elim, ◌≡◌, ◌<◌, ℕ, Bool, true, false, List, length, replicate, refl, sym, subst, arith, get_or, ◌∙◌, ap}
+use Rattle.std.proofs.lemmas.Grind.{elements}
 use Rattle.std.proofs.lemmas.List.{length-replicate}
 use Rattle.sg_sums.specs.Sets.{IsMarked, Stands}
 use Rattle.sg_sums.proofs.MarkLaws.{marked_in, none_marked}
@@ -36,3 +37,9 @@ returns c =
     let walked : IsWalked c.args.inst.now (has c.deref.result.now) 0 (replicate c.args.inst.now.n false) c.walk.new.marks c.walk.new.order.items =
     rw none at c.in_ok-walk.ensures in
     walked_order c.args.inst.now c.deref.result.now c.walk.new.marks c.walk.new.order.items c.requires all walked
+
+pub walk-requires-clause-free : goal.walk-requires-clause-free
+walk-requires-clause-free c = grind (arith, elements)
+
+pub walk-requires-clause-closed : goal.walk-requires-clause-closed
+walk-requires-clause-closed c = grind (arith, elements)
