@@ -1,4 +1,5 @@
 use Rattle.std.proofs.Common.{◌∙◌, ◌<◌, ◌++◌, ◌∷◌, [], ap, arith, false, length, replicate, subst}
+use Rattle.std.proofs.lemmas.Grind.{common_steps}
 use Rattle.std.proofs.lemmas.List.{get_or_read}
 use Rattle.sg_graph.specs.Search.{VisitsEdges}
 use Rattle.sg_graph.proofs.Incidences.{incident_ends}
@@ -25,3 +26,6 @@ loop-next-preserved c =
 
 pub returns : goal.returns
 returns c = MarksReached-all c.args.web.now c.loop-next.marks.items c.loop-next.found.items c.loop-next.next c.loop-next.invariant (omega arith)
+
+pub at-requires : goal.at-requires
+at-requires c = grind (arith, common_steps)

@@ -1,4 +1,5 @@
 use Rattle.std.proofs.Common.{◌≡◌, ◌<◌, ◌∙◌, ap, arith, false, true, get_or, length, sym}
+use Rattle.std.proofs.lemmas.Grind.{common_steps}
 use Rattle.std.proofs.lemmas.List.{get_or_read}
 use Rattle.sg_graph.specs.Incidence.{EndsAt}
 use Rattle.sg_graph.proofs.Searching.{Visits-more_new, Visits-more_same, other_in}
@@ -28,3 +29,6 @@ loop-k-preserved c =
           c.args.marks.now.items c.loop-k.marks.items c.args.found.now.items c.loop-k.found.items low same c.other-other.ensures c.loop-k.invariant
           c.if-not-index.marks.items c.if-not-index.found.items (sym read ∙ h) (ap (λ v. v.items) w.marks-is) (ap (λ v. v.items) w.found-is))
     ]
+
+pub returns : goal.returns
+returns c = grind (arith, common_steps)
