@@ -129,7 +129,6 @@ impl Search {
 }
 
 /// Searches between mates, one after another.
-#[derive(Drop)]
 pub struct Ways {
     // How far all regions over a node reach beyond it. Along a shortest way from a mate this falls by as
     // much as the way is long, until it comes to what both mates have in common.
@@ -137,6 +136,17 @@ pub struct Ways {
     // The search that goes on next, and the other one.
     near: Search,
     far: Search,
+}
+
+// Explicit for the same reason as that of `Joining`.
+impl Drop for Ways {
+    fn drop(self) {
+        let Ways {
+            heights: _heights,
+            near: _near,
+            far: _far,
+        } = self;
+    }
 }
 
 // Where two searches met: over an arc from a node of the one to a node of the other.
@@ -308,12 +318,22 @@ pub fn join_of(
 }
 
 /// What finds the edges between the mates of one nest after another on a graph: lists that are used again.
-#[derive(Drop)]
 pub struct Joining {
     marks: EdgeMarks,
     // The radii of each region and of all that it is a part of.
     heights: Vec<i64>,
     ways: Ways,
+}
+
+// An explicit `Drop`: otherwise every early return of an owner drops each field, and the prover pays for each.
+impl Drop for Joining {
+    fn drop(self) {
+        let Joining {
+            marks: _marks,
+            heights: _heights,
+            ways: _ways,
+        } = self;
+    }
 }
 
 impl Joining {
