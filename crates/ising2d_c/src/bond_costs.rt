@@ -76,5 +76,5 @@ fn bond_costs(
 {
     let mut graph = bounded_graph(alloc, given, asked, low, high)?;
     costs_of(alloc, &graph.planar, asked, &mut graph.bounds, TABLE_LIMIT)?;
-    Ok(graph.bounds)
+    Ok(graph.into_bounds())
 }

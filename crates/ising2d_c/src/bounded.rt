@@ -25,11 +25,32 @@ const LOW: u32 = 15;
 
 const HIGH: u32 = 16;
 
-/// A graph that is fit for a planar solver, and bounds of the costs of its bonds.
-#[derive(Drop)]
+/// A graph that is fit for a planar solver, and bounds of the costs of its bonds. Its drop is one call, as that of `Held`.
 pub struct BoundedGraph {
     pub planar: Planar,
     pub bounds: Vec<Bound>,
+}
+
+impl Drop for BoundedGraph {
+    fn drop(self) {
+        let BoundedGraph {
+            planar: _planar,
+            bounds: _bounds,
+        } = self;
+    }
+}
+
+impl BoundedGraph {
+    /// Its bounds; the graph is dropped.
+    pub fn into_bounds(self) -> Vec<Bound>
+        ensures { result.items ≡ self.bounds.items }
+    {
+        let BoundedGraph {
+            planar: _planar,
+            bounds,
+        } = self;
+        bounds
+    }
 }
 
 /// The graph of these numbers with the bounds of a caller, who asks for some of its bonds.
@@ -55,9 +76,13 @@ pub fn bounded_graph(
     ensures refuses { IfErr result (IsBoundsFault large_limits (numbers_of given.now) asked.now (bound_lists low.now high.now)) }
 {
     let planar = fit_graph(alloc, Limits::large(), given)?;
-    check_bounds(bonds_in(&planar), asked, low, high)?;
-    let bounds = joined_bounds(alloc, low, high)?;
-    Ok(BoundedGraph { planar, bounds })
+    let mut graph = BoundedGraph {
+        planar,
+        bounds: Vec::new(alloc),
+    };
+    check_bounds(bonds_in(&graph.planar), asked, low, high)?;
+    graph.bounds = joined_bounds(alloc, low, high)?;
+    Ok(graph)
 }
 
 // How many bonds the instance has.

@@ -76,5 +76,5 @@ fn cost_bounds(
 {
     let mut graph = bounded_graph(alloc, given, &[], low, high)?;
     bond_bounds(alloc, &graph.planar, &mut graph.bounds, rounds, TABLE_LIMIT)?;
-    Ok(graph.bounds)
+    Ok(graph.into_bounds())
 }

@@ -14,6 +14,7 @@ ghost use Rattle.ising2d_c.specs.Joins.{AreLeastJoins, AreTerminalLists, HasJoin
 ghost use Rattle.ising2d_c.specs.Networks.{GivesWeb, IsStatedFault, IsWebFault, lists_test, terminal_lists, web_by, web_numbers_of};
 ghost use Rattle.ising2d_c.specs.Proofs.{AreRowsOf, lists_fault, nest_given, nest_lists};
 
+use super::held::Held;
 use super::nests::{GivenNest, NestRows, check_lists, nest_by, rows_of_nest};
 use super::networks::{GivenWeb, network_of};
 use super::tables::joined;
@@ -44,7 +45,13 @@ pub fn join_of(
         × (table_limit < table_bytes (length (terminals_of given.now.nodes terminals.now)) given.now.nodes))) }
 {
     let network = network_of(alloc, given, terminals)?;
-    let join = least_weight_within(alloc, &network.web, &network.terminals, TABLE_LIMIT)?;
+    let network = Held { value: network };
+    let join = least_weight_within(
+        alloc,
+        &network.value.web,
+        &network.value.terminals,
+        TABLE_LIMIT,
+    )?;
     let rows = rows_of_nest(alloc, &join.nest)?;
     Ok((join, rows))
 }
@@ -68,7 +75,8 @@ pub fn joins_of(alloc: Global, given: &GivenWeb, lists: &GivenLists) -> Result<J
         × SomeTablesExceed table_limit (terminal_lists given.now.nodes lists.now.starts.now lists.now.entries.now) given.now.nodes)) }
 {
     let many = many_of(alloc, given, lists)?;
-    let found = least_joins(alloc, &many.web, &many.lists)?;
+    let many = Held { value: many };
+    let found = least_joins(alloc, &many.value.web, &many.value.lists)?;
     let (starts, edges) = joined(alloc, &found.joins)?;
     Ok(JoinRows {
         weights: found.weights,
@@ -93,16 +101,25 @@ fn least_joins(alloc: Global, web: &Web, lists: &Lists<u32>) -> Result<LeastJoin
     ensures weights { IfOk result (λ found. found.weights ≡ join_weights web.now found.joins) }
     ensures too_large { IfErr result (IfTooLarge (SomeTablesExceed table_limit lists.now web.now.nodes)) }
 {
-    let mut joiner = Joiner::new(web);
-    let mut joins = Lists::new(alloc);
-    let mut weights = Numbers::new(alloc);
+    let mut joiner = Held {
+        value: Joiner::new(web),
+    };
+    let mut found = Held {
+        value: LeastJoins {
+            joins: Lists::new(alloc),
+            weights: Numbers::new(alloc),
+        },
+    };
     for i in 0..lists.len() {
         let terminals = terminals_at(alloc, lists, i)?;
-        let join = joiner.least_weight_within(alloc, &terminals, TABLE_LIMIT)?;
-        joins.push(join.edges.as_slice())?;
-        weights.push(join.weight)?;
+        let join = joiner
+            .value
+            .least_weight_within(alloc, &terminals, TABLE_LIMIT)?;
+        let join = Held { value: join };
+        found.value.joins.push(join.value.edges.as_slice())?;
+        found.value.weights.push(join.value.weight)?;
     }
-    Ok(LeastJoins { joins, weights })
+    Ok(found.into_value())
 }
 
 // The terminals of a list.
@@ -146,7 +163,8 @@ fn join_verdict(
     check_lists(nest)?;
     let edges = EdgeList::from_vec(Vec::from_slice(alloc, edges)?);
     let nest = nest_by(alloc, nest)?;
-    if proves(alloc, &network.web, &network.terminals, &edges, &nest)? {
+    let nest = Held { value: nest };
+    if proves(alloc, &network.web, &network.terminals, &edges, &nest.value)? {
         Ok(Status::Done.exit_code())
     } else {
         Ok(Status::No.exit_code())

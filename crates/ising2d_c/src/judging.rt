@@ -16,6 +16,7 @@ ghost use Rattle.sg_draft.specs.Limits.{large_limits};
 ghost use Rattle.sg_draft.specs.Tests.{Refuses};
 
 use super::graphs::{Given, fit_graph, graph_of};
+use super::held::Held;
 use super::nests::{GivenNest, check_lists, nest_by};
 use super::stated::{GivenLoops, spins_by, stated_by};
 use sg_check::{Checker, ResultText, Verdict};
@@ -49,8 +50,10 @@ pub fn judge(
     ensures refuses { IfErr result (IsProofFault large_limits (numbers_of given.now) (stated_fault spins.now (loops_of loops.now))) }
 {
     let instance = graph_of(alloc, Limits::large(), given)?;
+    let instance = Held { value: instance };
     let stated = stated_by(alloc, energy, spins, loops)?;
-    Ok(verdict_on(alloc, &instance, &stated)?)
+    let stated = Held { value: stated };
+    Ok(verdict_on(alloc, &instance.value, &stated.value)?)
 }
 
 // The verdict on a stated proof of an instance.
@@ -93,7 +96,8 @@ pub fn judge_nest(
     ensures refuses { IfErr result (IsFitProofFault large_limits (numbers_of given.now) (nest_fault spins.now (nest_given nest.now))) }
 {
     let planar = fit_graph(alloc, Limits::large(), given)?;
-    nest_verdict(alloc, &planar, energy, spins, nest)
+    let planar = Held { value: planar };
+    nest_verdict(alloc, &planar.value, energy, spins, nest)
 }
 
 // How a call ends that judges what these numbers state as a proof of an instance by a nest.
@@ -110,7 +114,8 @@ fn nest_verdict(
     ensures refuses { IfErr result (OrNoMemory (Refuses (nest_fault spins.now (nest_given nest.now)))) }
 {
     let (spins, nest) = nest_stated(alloc, spins, nest)?;
-    if proves_by_nest(alloc, planar, energy, &spins, &nest)? {
+    let nest = Held { value: nest };
+    if proves_by_nest(alloc, planar, energy, &spins, &nest.value)? {
         Ok(Status::Done.exit_code())
     } else {
         Ok(Status::No.exit_code())

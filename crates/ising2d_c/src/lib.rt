@@ -35,6 +35,7 @@ mod cost_bounds;
 mod crossing;
 mod draws;
 mod graphs;
+mod held;
 mod joining;
 mod joins;
 mod judging;

@@ -12,6 +12,7 @@ ghost use Rattle.sg_limits.specs.Limits.{table_limit};
 ghost use Rattle.sg_wall.specs.Wall.{WallTablesExceed};
 
 use super::graphs::{Given, fit_graph};
+use super::held::Held;
 use super::nests::{NestRows, rows_of_nest};
 use super::rows::{Rows, rows_of};
 use super::unanswered::Unanswered;
@@ -31,7 +32,8 @@ pub fn ground_of(alloc: Global, given: &Given) -> Result<(Answer, Rows), Unanswe
         (IsTooLarge (numbers_of given.now) (TablesExceed table_limit))) }
 {
     let planar = fit_graph(alloc, Limits::large(), given)?;
-    let answer = solve_within(alloc, &planar, TABLE_LIMIT)?;
+    let planar = Held { value: planar };
+    let answer = solve_within(alloc, &planar.value, TABLE_LIMIT)?;
     let rows = rows_of(alloc, answer.loops.as_slice())?;
     Ok((answer, rows))
 }
@@ -44,7 +46,8 @@ pub fn nest_of(alloc: Global, given: &Given) -> Result<(NestedState, NestRows), 
         (IsTooLarge (numbers_of given.now) (TablesExceed table_limit))) }
 {
     let planar = fit_graph(alloc, Limits::large(), given)?;
-    let state = nested_state(alloc, &planar, TABLE_LIMIT)?;
+    let planar = Held { value: planar };
+    let state = nested_state(alloc, &planar.value, TABLE_LIMIT)?;
     let rows = rows_of_nest(alloc, &state.nest)?;
     Ok((state, rows))
 }
@@ -57,10 +60,11 @@ pub fn wall_of(alloc: Global, given: &Given) -> Result<WallAnswer, Unanswered>
         (IsTooLarge (numbers_of given.now) (WallTablesExceed table_limit))) }
 {
     let planar = fit_graph(alloc, Limits::large(), given)?;
-    if planar.instance().seam().is_empty() {
+    let planar = Held { value: planar };
+    if planar.value.instance().seam().is_empty() {
         return Err(Unanswered::Fault(Fault::Refused(Refusal::NoSeam)));
     }
-    Ok(wall_within(alloc, &planar, TABLE_LIMIT)?)
+    Ok(wall_within(alloc, &planar.value, TABLE_LIMIT)?)
 }
 
 /// The cost of each bond of the graph of these numbers.
@@ -69,7 +73,8 @@ pub fn costs_of(alloc: Global, given: &Given) -> Result<CostList, Fault>
     ensures refuses { IfErr result (IsFitFault program_limits (numbers_of given.now)) }
 {
     let planar = fit_graph(alloc, Limits::of_program(), given)?;
-    Ok(costs(alloc, &planar)?)
+    let planar = Held { value: planar };
+    Ok(costs(alloc, &planar.value)?)
 }
 
 /// The cluster of each spin of the graph of these numbers.
@@ -79,5 +84,6 @@ pub fn clusters_of(alloc: Global, given: &Given) -> Result<ClusterList, Unanswer
         (IsTooLarge (numbers_of given.now) (WeakenedTablesExceed table_limit))) }
 {
     let planar = fit_graph(alloc, Limits::large(), given)?;
-    Ok(clusters_within(alloc, &planar, TABLE_LIMIT)?)
+    let planar = Held { value: planar };
+    Ok(clusters_within(alloc, &planar.value, TABLE_LIMIT)?)
 }

@@ -6,6 +6,7 @@ ghost use Rattle.ising2d_c.specs.Graphs.{Finds};
 ghost use Rattle.ising2d_c.specs.Lattices.{AreTables, HandsTables, IsLattice, IsLatticeFault, limits_of, table_lists};
 
 use super::crossing::{fill, refuse};
+use super::held::Held;
 use super::lattices::lattice_of;
 use sg_cli::Status;
 use sg_draft::Limits;
@@ -94,9 +95,10 @@ fn tables_of(
     ensures refuses { IfErr result (IsLatticeFault most kind rows cols couplings.now) }
 {
     let instance = lattice_of(alloc, most, kind, rows, cols, couplings)?;
-    let ends = ends_of(alloc, instance.bonds())?;
-    let (starts, darts) = joined(alloc, instance.rotation())?;
-    let seam = instance.seam().clone()?;
+    let instance = Held { value: instance };
+    let ends = ends_of(alloc, instance.value.bonds())?;
+    let (starts, darts) = joined(alloc, instance.value.rotation())?;
+    let seam = instance.value.seam().clone()?;
     Ok(Tables {
         ends,
         starts,

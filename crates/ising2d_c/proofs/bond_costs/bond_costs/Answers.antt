@@ -1,4 +1,5 @@
-use Rattle.std.proofs.Common.{◌≡◌, ◌∙◌, ap, inl, length, subst, sym, List}
+use Rattle.std.proofs.Common.{◌≡◌, ◌∙◌, ap, inl, length, subst, sym, List, arith}
+use Rattle.std.proofs.lemmas.Grind.{common_steps}
 use Rattle.std.proofs.lemmas.List.{with_items_is}
 use Rattle.sg_limits.specs.Limits.{table_limit}
 use Rattle.sg_draft.specs.Limits.{large_limits}
@@ -17,7 +18,7 @@ returns-clause-gives c = λ after says.
     let own = c.in_ok-graph.ensures in
     let narrows = c.in_ok-costs_of.ensures.narrows in
     let old = c.deref_mut.ensures.value ∙ own.bounds in
-    let items = with_items_is c.in_ok-graph.graph.bounds new (c.costs_of.auto.bounds ∙ c.deref_mut.ensures.len) in
+    let items = c.into_bounds.ensures ∙ with_items_is c.in_ok-graph.graph.bounds new (c.costs_of.auto.bounds ∙ c.deref_mut.ensures.len) in
     let said : bounds_by after ≡ new = says.says ∙ items in
     let count = ap length items ∙ narrows.count ∙ ap length c.deref_mut.ensures.value ∙ own.count in
     record {
@@ -41,3 +42,9 @@ returns-in_err-costs_of-clause-refuses c =
     (by_solver g c.in_ok-graph.graph.planar.instance c.in_ok-graph.ensures.given
     (IsBoundsFault large_limits g c.args.asked.now (bound_lists c.args.low.now c.args.high.now)) (inl (inl tt)) (ForcedTablesExceed table_limit) forced_exceeded
     c.in_err-costs_of.field-0.0 c.in_err-costs_of.ensures.too_large)
+
+pub returns-clause-low : goal.returns-clause-low
+returns-clause-low c = grind (arith, common_steps)
+
+pub returns-clause-high : goal.returns-clause-high
+returns-clause-high c = grind (arith, common_steps)

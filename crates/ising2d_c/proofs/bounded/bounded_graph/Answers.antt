@@ -13,6 +13,6 @@ returns-in_err-check_bounds-clause-refuses c =
 
 pub returns-clause-count : goal.returns-clause-count
 returns-clause-count c =
-    ap length c.in_ok-bounds.ensures
+    ap length c.in_ok-graph.ensures
     ∙ length-map-range_with_len (bound_by (bound_lists c.args.low.now c.args.high.now)) 0 (length c.args.low.now)
     ∙ c.in_ok-check_bounds.ensures.low ∙ c.bonds_in.ensures

@@ -46,14 +46,14 @@ loop-i-preserved c =
     let i = c.loop-i.i in
     let g = c.args.web.now in
     let lists = c.args.lists.now in
-    let old = c.loop-i.joins in
+    let old = c.loop-i.found.value.joins in
     let edges = c.in_ok-join.join.edges in
     let own : IsLeastJoin g (list_at lists i) edges = rw c.in_ok-terminals.ensures at (
     subst (λ (h : Graph). IsLeastJoin h c.in_ok-terminals.terminals edges) c.loop-i.invariant.same c.in_ok-join.ensures.least) in
     let count : length old ≡ i = c.loop-i.invariant.count in
     let long : length (old ++ edges ∷ []) ≡ i + 1 = length-append old (edges ∷ []) ∙ ap (λ m. m + 1) count in
     let next = joins-more g lists old i count edges c.loop-i.invariant.each own in
-    let weigh = weights-more g lists old i count edges c.loop-i.weights c.loop-i.invariant.weights in
+    let weigh = weights-more g lists old i count edges c.loop-i.found.value.weights c.loop-i.invariant.weights in
     record {
       same = c.least_weight_within.ensures.same ∙ c.loop-i.invariant.same;
       count = rw (c.in_ok-push.ensures.ok, c.as_slice.ensures) long;
@@ -71,7 +71,7 @@ loop-i-preserved c =
 pub returns-clause-least : goal.returns-clause-least
 returns-clause-least c =
     let end : c.loop-i.i ≡ length c.args.lists.now = omega (arith, c.loop-i-test.false, c.loop-i.auto.i-end, c.len-i-end.ensures) in
-    record {
+    rw c.into_value.ensures (record {
       count = c.loop-i.invariant.count ∙ end;
       each = λ j low. c.loop-i.invariant.each j (omega (arith, low, end));
-    }
+    })

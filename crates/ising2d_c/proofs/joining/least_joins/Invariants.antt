@@ -7,8 +7,8 @@ use Rattle.ising2d_c.proofs.joining.least_joins.Given as goal
 -- a minimum T-join of each list so far, with its weight
 abbrev pub invariant-loop-i : goal.invariant-loop-i
 invariant-loop-i l = record {
-  same : l.joiner ≡ l.web;
-  count : length l.joins ≡ l.i;
-  each : (j : ℕ) → j < l.i → IsLeastJoin l.web (list_at l.lists j) (list_at l.joins j);
-  weights : l.weights ≡ join_weights l.web l.joins;
+  same : l.joiner.value ≡ l.web;
+  count : length l.found.value.joins ≡ l.i;
+  each : (j : ℕ) → j < l.i → IsLeastJoin l.web (list_at l.lists j) (list_at l.found.value.joins j);
+  weights : l.found.value.weights ≡ join_weights l.web l.found.value.joins;
 }

@@ -1,4 +1,5 @@
 use Rattle.std.proofs.Common.{◌≡◌, ◌∙◌, Bool, ℤ, false, get_or, pos, Some, ap, arith, sym}
+use Rattle.std.proofs.lemmas.Grind.{common_steps}
 use Rattle.sg_reader.specs.Result.{is_spin_value}
 use Rattle.ising2d_c.proofs.FirstLemmas.{place-none, place-some}
 use Rattle.ising2d_c.proofs.StatedLemmas.{by_value, values-pass}
@@ -19,3 +20,6 @@ pub returns-clause-passes : goal.returns-clause-passes
 returns-clause-passes c =
     let values = c.args.values.now in
     values-pass values (omega arith) (place-none is_spin values (pos 0) (λ i inside. c.loop-k.invariant.passes i (omega arith)))
+
+pub loop-k-preserved : goal.loop-k-preserved
+loop-k-preserved c = grind (arith, common_steps)
