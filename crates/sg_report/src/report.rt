@@ -72,20 +72,15 @@ fn report_value(alloc: Global, members: &Members) -> Result<Value, NoMemory>
     let bonds = members.bonds;
     let sum = members.sum;
     let energy = members.energy;
-    let clusters = Value::Array(name_values(alloc, members.clusters)?);
-    let costs = Value::Array(number_values(alloc, members.costs)?);
-    let loops = Value::Array(loop_values(alloc, members.loops)?);
-    let spins = Value::Array(spin_values(alloc, members.spins)?);
-    let wall = wall_value(alloc, members.wall)?;
     json!(in alloc; {
         "bonds": bonds,
-        "clusters": clusters,
-        "costs": costs,
+        "clusters": Value::Array(name_values(alloc, members.clusters)?),
+        "costs": Value::Array(number_values(alloc, members.costs)?),
         "energy": energy,
-        "loops": loops,
-        "spins": spins,
+        "loops": Value::Array(loop_values(alloc, members.loops)?),
+        "spins": Value::Array(spin_values(alloc, members.spins)?),
         "sum": sum,
-        "wall": wall
+        "wall": wall_value(alloc, members.wall)?
     })
 }
 
