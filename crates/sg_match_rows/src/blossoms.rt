@@ -1,6 +1,7 @@
 ghost use Rattle.std.specs.Prelude.{◌≡◌, ℕ, ◌<◌, ◌≤◌, ◌+◌, ◌^◌, length, IsTrue};
 ghost use Rattle.sg_arena.specs.Family.{IsTop, IsBlossom, leaf_count, total_of};
 
+use super::facts::expect;
 use sg_arena::{Arena, Link, NoMemory};
 use sg_steps::Steps;
 use std::alloc::Global;
@@ -60,24 +61,24 @@ fn shrink_ring<L: Ledger, R: Abort>(
 {
     let [a, b, c] = ring.from;
     let [x, y, z] = ring.to;
-    assert!(rt; a < k);
-    assert!(rt; b < k);
-    assert!(rt; c < k);
-    assert!(rt; x < k);
-    assert!(rt; y < k);
-    assert!(rt; z < k);
+    expect(rt, "first leaf", a < k);
+    expect(rt, "second leaf", b < k);
+    expect(rt, "third leaf", c < k);
+    expect(rt, "leaf after the first", x < k);
+    expect(rt, "leaf after the second", y < k);
+    expect(rt, "leaf after the third", z < k);
     let first = arena.top(a);
     let second = arena.top(b);
     let third = arena.top(c);
-    assert!(rt; first != second);
-    assert!(rt; second != third);
-    assert!(rt; third != first);
+    expect(rt, "two tops", first != second);
+    expect(rt, "two tops", second != third);
+    expect(rt, "two tops", third != first);
     let after_first = arena.top(x);
     let after_second = arena.top(y);
     let after_third = arena.top(z);
-    assert!(rt; after_first == second);
-    assert!(rt; after_second == third);
-    assert!(rt; after_third == first);
+    expect(rt, "the next top", after_first == second);
+    expect(rt, "the next top", after_second == third);
+    expect(rt, "the next top", after_third == first);
     let cycle = [
         Link {
             node: first,
@@ -122,33 +123,33 @@ fn change_duals<L: Ledger, R: Abort>(
     requires { leaf_count arena.old ≡ k }
     ensures { leaf_count arena.new ≡ k }
 {
-    assert!(rt; totals_fit(arena, k));
+    expect(rt, "totals", totals_fit(arena, k));
     let room = arena.room();
     match change {
         Change::Lift(up, delta) => {
-            assert!(rt; up < k);
-            assert!(rt; 1 <= delta);
-            assert!(rt; delta <= 1000);
+            expect(rt, "outer leaf", up < k);
+            expect(rt, "least change", 1 <= delta);
+            expect(rt, "largest change", delta <= 1000);
             let outer = arena.top(up);
-            assert!(rt; outer < room);
+            expect(rt, "outer top", outer < room);
             arena.raise(&[outer], &[], delta, steps);
         }
         Change::Lower(down, delta) => {
-            assert!(rt; down < k);
-            assert!(rt; 1 <= delta);
+            expect(rt, "inner leaf", down < k);
+            expect(rt, "least change", 1 <= delta);
             let inner = arena.top(down);
-            assert!(rt; delta <= arena.dual(inner));
+            expect(rt, "inner dual", delta <= arena.dual(inner));
             arena.raise(&[], &[inner], delta, steps);
         }
         Change::Shift(up, down, delta) => {
-            assert!(rt; up < k);
-            assert!(rt; down < k);
-            assert!(rt; 1 <= delta);
-            assert!(rt; delta <= 1000);
+            expect(rt, "outer leaf", up < k);
+            expect(rt, "inner leaf", down < k);
+            expect(rt, "least change", 1 <= delta);
+            expect(rt, "largest change", delta <= 1000);
             let outer = arena.top(up);
             let inner = arena.top(down);
-            assert!(rt; outer != inner);
-            assert!(rt; delta <= arena.dual(inner));
+            expect(rt, "two tops", outer != inner);
+            expect(rt, "inner dual", delta <= arena.dual(inner));
             arena.raise(&[outer], &[inner], delta, steps);
         }
         _ => {}
@@ -166,10 +167,10 @@ fn expand_top<L: Ledger, R: Abort>(
     requires { leaf_count arena.old ≡ k }
     ensures { leaf_count arena.new ≡ k }
 {
-    assert!(rt; leaf < k);
+    expect(rt, "leaf", leaf < k);
     let node = arena.top(leaf);
-    assert!(rt; !arena.is_leaf(node));
-    assert!(rt; arena.dual(node) == 0);
+    expect(rt, "a blossom", !arena.is_leaf(node));
+    expect(rt, "dual of a blossom to expand", arena.dual(node) == 0);
     arena.expand(node, steps);
 }
 
@@ -185,10 +186,10 @@ fn read_cycle<R: Abort>(rt: &R, arena: &Arena, blossom: usize, ring: Ring)
             from: ring.from[i],
             to: ring.to[i],
         };
-        assert_eq!(rt; arena.link(child), link);
+        expect(rt, "link", arena.link(child) == link);
         child = arena.after(child);
     }
-    assert_eq!(rt; child, first);
+    expect(rt, "first child", child == first);
 }
 
 // Reads all that holds a leaf, from its node to its top: these cycles, the innermost first.
@@ -197,22 +198,26 @@ fn read_leaf<R: Abort>(rt: &R, arena: &Arena, leaf: u32, total: i64, rings: &[Ri
 {
     let room = arena.room();
     let mut node = arena.leaf_node(leaf);
-    assert!(rt; arena.is_leaf(node));
+    expect(rt, "a leaf", arena.is_leaf(node));
     for &ring in rings {
         match arena.parent(node) {
             None => panic!(rt; "no blossom holds the node"),
             Some(blossom) => {
-                assert!(rt; blossom < room);
-                assert!(rt; !arena.is_leaf(blossom));
-                assert_eq!(rt; arena.child(blossom, leaf), node);
+                expect(rt, "room of a blossom", blossom < room);
+                expect(rt, "a blossom", !arena.is_leaf(blossom));
+                expect(
+                    rt,
+                    "child that holds the leaf",
+                    arena.child(blossom, leaf) == node,
+                );
                 read_cycle(rt, arena, blossom, ring);
                 node = blossom;
             }
         }
     }
-    assert_eq!(rt; arena.parent(node), None);
-    assert_eq!(rt; arena.top(leaf), node);
-    assert_eq!(rt; arena.total(leaf), total);
+    expect(rt, "parent of the top", arena.parent(node) == None);
+    expect(rt, "top", arena.top(leaf) == node);
+    expect(rt, "total", arena.total(leaf) == total);
 }
 
 // Makes one change.
@@ -229,7 +234,7 @@ fn apply<L: Ledger, R: Abort>(
     match change {
         Change::Shrink(ring) => {
             let name = shrink_ring(rt, arena, k, ring, steps);
-            assert_eq!(rt; arena.dual(name), 0);
+            expect(rt, "dual of a new blossom", arena.dual(name) == 0);
         }
         Change::Expand(leaf) => expand_top(rt, arena, k, leaf, steps),
         _ => change_duals(rt, arena, k, change, steps),
@@ -249,10 +254,10 @@ fn shrinks_and_expands<L: Ledger, R: Abort>(
     let mut steps = Steps::<L>::new(blank);
     let mut arena = Arena::open(alloc, 3)?;
     let top = shrink_ring(rt, &mut arena, 3, A, &mut steps);
-    assert_eq!(rt; arena.top(0), top);
-    assert_eq!(rt; arena.top(1), top);
-    assert_eq!(rt; arena.top(2), top);
-    assert_eq!(rt; arena.dual(top), 0);
+    expect(rt, "top of leaf 0", arena.top(0) == top);
+    expect(rt, "top of leaf 1", arena.top(1) == top);
+    expect(rt, "top of leaf 2", arena.top(2) == top);
+    expect(rt, "dual of the top", arena.dual(top) == 0);
     expand_top(rt, &mut arena, 3, 0, &mut steps);
     for leaf in 0..3 {
         read_leaf(rt, &arena, leaf, 0, &[]);
@@ -284,8 +289,8 @@ fn nests<L: Ledger, R: Abort>(rt: &R, alloc: Global, blank: Blank) -> Result<(),
     read_leaf(rt, &arena, 3, 0, &[outer]);
     expand_top(rt, &mut arena, 5, 4, &mut steps);
     for leaf in 0..3 {
-        assert_eq!(rt; arena.top(leaf), small);
-        assert!(rt; !arena.is_leaf(arena.top(leaf)));
+        expect(rt, "top", arena.top(leaf) == small);
+        expect(rt, "a blossom", !arena.is_leaf(arena.top(leaf)));
         read_leaf(rt, &arena, leaf, 0, &[A]);
     }
     read_leaf(rt, &arena, 3, 0, &[]);
@@ -309,9 +314,9 @@ fn raises<L: Ledger, R: Abort>(rt: &R, alloc: Global, blank: Blank) -> Result<()
     let mut arena = Arena::open(alloc, 3)?;
     change_duals(rt, &mut arena, 3, Change::Lift(0, 2), &mut steps);
     change_duals(rt, &mut arena, 3, Change::Shift(1, 0, 1), &mut steps);
-    assert_eq!(rt; arena.total(0), 1);
-    assert_eq!(rt; arena.total(1), 1);
-    assert_eq!(rt; arena.total(2), 0);
+    expect(rt, "total of leaf 0", arena.total(0) == 1);
+    expect(rt, "total of leaf 1", arena.total(1) == 1);
+    expect(rt, "total of leaf 2", arena.total(2) == 0);
     Ok(())
 }
 
@@ -427,7 +432,7 @@ fn read_row<R: Abort>(rt: &R, arena: &Arena, row: Row)
         let group = leaf as usize / 3;
         let rings = [small[group], ALL];
         let count = row.cycles[group];
-        assert!(rt; count <= 2);
+        expect(rt, "levels", count <= 2);
         read_leaf(rt, arena, leaf, row.totals[leaf as usize], &rings[..count]);
     }
 }
@@ -445,7 +450,7 @@ fn builds<L: Ledger, R: Abort>(rt: &R, alloc: Global, blank: Blank) -> Result<()
     for row in ROWS {
         apply(rt, &mut arena, 9, row.change, &mut steps);
         read_row(rt, &arena, row);
-        assert_eq!(rt; arena.room(), room);
+        expect(rt, "room", arena.room() == room);
     }
     Ok(())
 }

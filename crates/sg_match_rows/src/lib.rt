@@ -8,6 +8,8 @@
 #[cfg(test)]
 mod blossoms;
 #[cfg(test)]
+mod facts;
+#[cfg(test)]
 mod matching;
 #[cfg(test)]
 mod metrics;

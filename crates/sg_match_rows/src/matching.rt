@@ -1,6 +1,7 @@
 ghost use Rattle.std.specs.Prelude.{◌≡◌, ◌<◌, ◌≤◌, ◌^◌, length, IfOk};
 ghost use Rattle.sg_arena.specs.Family.{leaf_count};
 
+use super::facts::expect;
 use sg_arena::Arena;
 use sg_match::{Engine, NoMemory, Stage};
 use sg_pairing::is_metric;
@@ -43,8 +44,8 @@ fn set_cost(costs: &mut Costs, u: u32, v: u32, cost: i64)
 fn distance<R: Abort>(rt: &R, a: (u32, u32), b: (u32, u32)) -> i64 {
     let across = a.0.abs_diff(b.0);
     let along = a.1.abs_diff(b.1);
-    assert!(rt; across <= 100);
-    assert!(rt; along <= 100);
+    expect(rt, "distance across", across <= 100);
+    expect(rt, "distance along", along <= 100);
     2 * (across as i64 + along as i64)
 }
 
@@ -73,13 +74,13 @@ fn distances<R: Abort>(rt: &R, alloc: Global, places: &[(u32, u32)]) -> Result<C
 
 // A sum and one cost more.
 fn add_cost<R: Abort>(rt: &R, sum: i64, costs: &Costs, u: u32, v: u32) -> i64 {
-    assert!(rt; u < costs.size());
-    assert!(rt; v < costs.size());
+    expect(rt, "first leaf", u < costs.size());
+    expect(rt, "second leaf", v < costs.size());
     let cost = costs.cost(u, v);
-    assert!(rt; 0 <= sum);
-    assert!(rt; sum <= 1_000_000);
-    assert!(rt; 0 <= cost);
-    assert!(rt; cost <= 1_000_000);
+    expect(rt, "a sum", 0 <= sum);
+    expect(rt, "a small sum", sum <= 1_000_000);
+    expect(rt, "a cost", 0 <= cost);
+    expect(rt, "a small cost", cost <= 1_000_000);
     sum + cost
 }
 
@@ -110,13 +111,13 @@ fn least_plain<R: Abort>(rt: &R, costs: &Costs) -> i64 {
 
 // The cost of these mates, each the other's.
 fn mates_cost<R: Abort>(rt: &R, costs: &Costs, mates: &[u32]) -> i64 {
-    assert!(rt; mates.len() == costs.size() as usize);
+    expect(rt, "number of mates", mates.len() == costs.size() as usize);
     let mut sum = 0;
     for u in 0..costs.size() {
         let mate = mates[u as usize];
-        assert!(rt; mate != u);
-        assert!(rt; mate < costs.size());
-        assert_eq!(rt; mates[mate as usize], u);
+        expect(rt, "another leaf", mate != u);
+        expect(rt, "mate", mate < costs.size());
+        expect(rt, "mate of the mate", mates[mate as usize] == u);
         if u < mate {
             sum = add_cost(rt, sum, costs, u, mate);
         }
@@ -133,9 +134,9 @@ fn first_duals<R: Abort>(rt: &R, arena: &Arena, leaf: u32) -> i64
     let mut sum = 0;
     for _level in 0..8 {
         let dual = arena.dual(node);
-        assert!(rt; 0 <= sum);
-        assert!(rt; sum <= 1_000_000);
-        assert!(rt; dual <= 1_000_000);
+        expect(rt, "a sum", 0 <= sum);
+        expect(rt, "a small sum", sum <= 1_000_000);
+        expect(rt, "a small dual", dual <= 1_000_000);
         sum += dual;
         match arena.parent(node) {
             Some(blossom) if arena.first_child(blossom) == node => node = blossom,
@@ -152,10 +153,10 @@ fn all_duals<R: Abort>(rt: &R, arena: &Arena, leaves: u32) -> i64
     let mut sum = 0;
     for leaf in 0..leaves {
         let duals = first_duals(rt, arena, leaf);
-        assert!(rt; 0 <= sum);
-        assert!(rt; sum <= 1_000_000);
-        assert!(rt; 0 <= duals);
-        assert!(rt; duals <= 1_000_000);
+        expect(rt, "a sum", 0 <= sum);
+        expect(rt, "a small sum", sum <= 1_000_000);
+        expect(rt, "duals", 0 <= duals);
+        expect(rt, "small duals", duals <= 1_000_000);
         sum += duals;
     }
     sum
@@ -171,9 +172,13 @@ fn meets_least<L: Ledger, R: Abort>(
     let costs = distances(rt, alloc, places)?;
     let least = least_plain(rt, &costs);
     let kept = distances(rt, alloc, places)?;
-    assert!(rt; is_metric(&costs));
+    expect(rt, "a metric", is_metric(&costs));
     let matched = Engine::open(alloc, costs)?.run(steps);
-    assert_eq!(rt; mates_cost(rt, &kept, matched.mates.as_slice()), least);
+    expect(
+        rt,
+        "cost",
+        mates_cost(rt, &kept, matched.mates.as_slice()) == least,
+    );
     Ok(())
 }
 
@@ -186,10 +191,10 @@ fn matches_two<L: Ledger, R: Abort>(rt: &R, alloc: Global, blank: Blank) -> Resu
     let mut steps = Steps::<L>::new(blank);
     let mut costs = Costs::new(alloc, 2)?;
     costs.set(0, 1, 4);
-    assert!(rt; is_metric(&costs));
+    expect(rt, "a metric", is_metric(&costs));
     let mut engine = Engine::open(alloc, costs)?;
-    assert_eq!(rt; engine.advance(&mut steps), Stage::Matched);
-    assert_eq!(rt; all_duals(rt, engine.family(), 2), 4);
+    expect(rt, "stage", engine.advance(&mut steps) == Stage::Matched);
+    expect(rt, "duals", all_duals(rt, engine.family(), 2) == 4);
     Ok(())
 }
 
@@ -207,9 +212,9 @@ fn matches_none<L: Ledger, R: Abort>(rt: &R, alloc: Global, blank: Blank) -> Res
 {
     let mut steps = Steps::<L>::new(blank);
     let costs = Costs::new(alloc, 0)?;
-    assert!(rt; is_metric(&costs));
+    expect(rt, "a metric", is_metric(&costs));
     let mut engine = Engine::open(alloc, costs)?;
-    assert_eq!(rt; engine.advance(&mut steps), Stage::Matched);
+    expect(rt, "stage", engine.advance(&mut steps) == Stage::Matched);
     Ok(())
 }
 
@@ -242,10 +247,14 @@ fn joins_triangles<L: Ledger, R: Abort>(rt: &R, alloc: Global, blank: Blank) -> 
     let mut steps = Steps::<L>::new(blank);
     let costs = triangles(alloc)?;
     let kept = triangles(alloc)?;
-    assert!(rt; is_metric(&costs));
+    expect(rt, "a metric", is_metric(&costs));
     let matched = Engine::open(alloc, costs)?.run(&mut steps);
-    assert_eq!(rt; mates_cost(rt, &kept, matched.mates.as_slice()), 24);
-    assert_eq!(rt; all_duals(rt, &matched.family, 6), 24);
+    expect(
+        rt,
+        "cost",
+        mates_cost(rt, &kept, matched.mates.as_slice()) == 24,
+    );
+    expect(rt, "duals", all_duals(rt, &matched.family, 6) == 24);
     Ok(())
 }
 
@@ -265,10 +274,10 @@ fn matches_four<L: Ledger, R: Abort>(
     steps: &mut Steps<L>,
 ) -> Result<(), NoMemory> {
     let costs = table(alloc, entries)?;
-    assert!(rt; is_metric(&costs));
+    expect(rt, "a metric", is_metric(&costs));
     let matched = Engine::open(alloc, costs)?.run(steps);
-    assert_eq!(rt; matched.mates.as_slice(), &mates[..]);
-    assert_eq!(rt; all_duals(rt, &matched.family, 4), duals);
+    expect(rt, "mates", matched.mates.as_slice() == &mates[..]);
+    expect(rt, "duals", all_duals(rt, &matched.family, 4) == duals);
     Ok(())
 }
 
@@ -308,10 +317,14 @@ fn matches_for_nothing<L: Ledger, R: Abort>(
     let mut steps = Steps::<L>::new(blank);
     let costs = Costs::new(alloc, 4)?;
     let kept = Costs::new(alloc, 4)?;
-    assert!(rt; is_metric(&costs));
+    expect(rt, "a metric", is_metric(&costs));
     let matched = Engine::open(alloc, costs)?.run(&mut steps);
-    assert_eq!(rt; mates_cost(rt, &kept, matched.mates.as_slice()), 0);
-    assert_eq!(rt; all_duals(rt, &matched.family, 4), 0);
+    expect(
+        rt,
+        "cost",
+        mates_cost(rt, &kept, matched.mates.as_slice()) == 0,
+    );
+    expect(rt, "duals", all_duals(rt, &matched.family, 4) == 0);
     Ok(())
 }
 

@@ -1,4 +1,5 @@
 // Which costs an engine takes.
+use super::facts::expect;
 use super::matching::table;
 use sg_pairing::is_metric;
 use sg_slack::Costs;
@@ -13,8 +14,10 @@ fn costs_are_taken_or_not(rt: HostRuntime) -> Result<(), Fail> {
         ([0, -2, 0, 0, 0, 0], false),
     ];
     for (entries, good) in rows {
-        assert_eq!(rt; is_metric(&table(rt.alloc(), entries)?), good);
+        let costs = table(rt.alloc(), entries)?;
+        expect(&rt, "a metric", is_metric(&costs) == good);
     }
-    assert!(rt; !is_metric(&Costs::new(rt.alloc(), 3)?));
+    let odd = Costs::new(rt.alloc(), 3)?;
+    expect(&rt, "an odd number of leaves", !is_metric(&odd));
     Ok(())
 }

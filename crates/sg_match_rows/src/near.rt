@@ -3,6 +3,7 @@ ghost use Rattle.sg_slack.specs.Line.{IsLine};
 ghost use Rattle.sg_slack.specs.Slack.{mark_at, total_at};
 ghost use Rattle.sg_slack.specs.declared.Mark.TheVariants.{Outer};
 
+use super::facts::expect;
 use super::slacks::are_small;
 use sg_slack::{Costs, Mark, Near, NoMemory, Pair, least_outer_free};
 use std::alloc::Global;
@@ -74,13 +75,12 @@ fn agrees<R: Abort>(
     ensures marks { length marks.new ≡ near.now.table.size }
 {
     fill(place, totals, marks);
-    assert!(rt; are_small(near.costs(), totals));
+    expect(rt, "small costs", are_small(near.costs(), totals));
     let free = near.least(totals, tops, marks);
     let free_scanned = least_outer_free(near.costs(), totals, tops, marks);
-    assert_eq!(rt;
-        free.map(|pair| pair.slack),
-        free_scanned.map(|pair| pair.slack)
-    );
+    let slack = free.map(|pair| pair.slack);
+    let slack_scanned = free_scanned.map(|pair| pair.slack);
+    expect(rt, "slack", slack == slack_scanned);
     free
 }
 
@@ -98,7 +98,7 @@ fn meets_the_other<R: Abort>(rt: &R, alloc: Global) -> Result<(), NoMemory> {
         v: 1,
         slack: 3,
     };
-    assert_eq!(rt; found, Some(pair));
+    expect(rt, "pair", found == Some(pair));
     Ok(())
 }
 

@@ -3,6 +3,7 @@ ghost use Rattle.sg_slack.specs.Table.{cost_of};
 ghost use Rattle.sg_slack.specs.Slack.{SumsFit};
 ghost use Rattle.sg_slack.specs.Small.{IsSmall};
 
+use super::facts::expect;
 use sg_slack::{Costs, Mark, Pair, least_outer_free, least_outer_outer};
 use std::test::Fail;
 
@@ -50,15 +51,19 @@ fn an_outer_leaf_meets_a_free_one(rt: HostRuntime) -> Result<(), Fail> {
     let total = [1, 0];
     let top = [7, 8];
     let mark = [Mark::Outer, Mark::Free];
-    assert!(rt; are_small(&costs, &total));
+    expect(&rt, "small costs", are_small(&costs, &total));
     let found = least_outer_free(&costs, &total, &top, &mark);
     let pair = Pair {
         u: 0,
         v: 1,
         slack: 3,
     };
-    assert_eq!(rt; found, Some(pair));
-    assert_eq!(rt; least_outer_outer(&costs, &total, &top, &mark), None);
+    expect(&rt, "pair", found == Some(pair));
+    expect(
+        &rt,
+        "no two outer leaves",
+        least_outer_outer(&costs, &total, &top, &mark) == None,
+    );
     Ok(())
 }
 
@@ -81,14 +86,14 @@ fn the_least_of_several(rt: HostRuntime) -> Result<(), Fail> {
         (4, 5, -2),
     ];
     for (u, v, cost) in entries {
-        assert!(rt; u < costs.size());
-        assert!(rt; v < costs.size());
+        expect(&rt, "first leaf", u < costs.size());
+        expect(&rt, "second leaf", v < costs.size());
         costs.set(u, v, cost);
-        assert_eq!(rt; costs.cost(u, v), cost);
-        assert_eq!(rt; costs.cost(v, u), cost);
+        expect(&rt, "cost", costs.cost(u, v) == cost);
+        expect(&rt, "cost the other way", costs.cost(v, u) == cost);
     }
-    assert_eq!(rt; costs.size(), 6);
-    assert_eq!(rt; costs.cost(3, 5), 0);
+    expect(&rt, "size", costs.size() == 6);
+    expect(&rt, "cost that is not set", costs.cost(3, 5) == 0);
     let total = [2, 1, 0, 3, 1, 0];
     let top = [9, 9, 9, 3, 4, 5];
     let mark = [
@@ -99,13 +104,19 @@ fn the_least_of_several(rt: HostRuntime) -> Result<(), Fail> {
         Mark::Free,
         Mark::Inner,
     ];
-    assert!(rt; are_small(&costs, &total));
+    expect(&rt, "small costs", are_small(&costs, &total));
     let free = least_outer_free(&costs, &total, &top, &mark);
-    assert_eq!(rt;
-        free.map(|pair| (pair.u, pair.v, pair.slack)),
-        Some((1, 4, 4))
+    let found = free.map(|pair| (pair.u, pair.v, pair.slack));
+    expect(
+        &rt,
+        "least slack of an outer leaf and a free one",
+        found == Some((1, 4, 4)),
     );
     let outer = least_outer_outer(&costs, &total, &top, &mark);
-    assert_eq!(rt; outer.map(|pair| pair.slack), Some(3));
+    expect(
+        &rt,
+        "least slack of two outer leaves",
+        outer.map(|pair| pair.slack) == Some(3),
+    );
     Ok(())
 }
