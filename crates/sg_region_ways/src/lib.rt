@@ -2,7 +2,7 @@
 //! cuts round the regions.
 //!
 //! `ways` searches the walks, `rows` puts the nodes of each region side by side, and `chains` makes the
-//! cuts, in chains that grow by nodes; `edge_marks` keeps a set of edges as bits.
+//! cuts, in chains that grow by nodes.
 //!
 //! For the next engineer: nothing is promised of a T-join or of a cut, since callers have them judged.
 //! Each function must only be safe and terminate: a read beyond the end of a list gives nothing, each
@@ -10,12 +10,10 @@
 #![tactic(auto)]
 
 mod chains;
-mod edge_marks;
 mod rows;
 mod ways;
 
 pub use chains::{Chains, chains_of};
-pub use edge_marks::EdgeMarks;
 use std::alloc::AllocError;
 pub use ways::{Joining, Mates, Ways, join_of};
 

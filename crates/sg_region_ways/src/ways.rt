@@ -1,9 +1,8 @@
 // The T-join: a shortest way between each two mates, by what the finished regions know.
 use super::NoMemory;
-use super::edge_marks::EdgeMarks;
 use sg_graph::EdgeList;
 use sg_growth::{Adjacency, Nest, Pair};
-use sg_slots::{entry, set_entry};
+use sg_slots::{Marks, entry, set_entry};
 use std::alloc::Global;
 use std::mem::swap;
 
@@ -115,7 +114,7 @@ impl Search {
     }
 
     // Turns the marks of the edges from the mate to a node.
-    fn turn_back(&self, adjacency: &Adjacency, from: u32, join: &mut EdgeMarks) {
+    fn turn_back(&self, adjacency: &Adjacency, from: u32, join: &mut Marks) {
         let mut here = from;
         for _ in 0..self.reached.len() {
             if here == self.start {
@@ -257,7 +256,7 @@ impl Ways {
         &mut self,
         adjacency: &Adjacency,
         mates: Mates,
-        join: &mut EdgeMarks,
+        join: &mut Marks,
     ) -> Result<bool, NoMemory> {
         let first = self.height(mates.one);
         let second = self.height(mates.other);
@@ -319,7 +318,7 @@ pub fn join_of(
 
 /// What finds the edges between the mates of one nest after another on a graph: lists that are used again.
 pub struct Joining {
-    marks: EdgeMarks,
+    marks: Marks,
     // The radii of each region and of all that it is a part of.
     heights: Vec<i64>,
     ways: Ways,
@@ -340,7 +339,7 @@ impl Joining {
     /// For a graph of so many nodes and edges.
     pub fn new(alloc: Global, nodes: usize, edges: usize) -> Result<Joining, NoMemory> {
         Ok(Joining {
-            marks: EdgeMarks::new(alloc, edges)?,
+            marks: Marks::new(alloc, edges)?,
             heights: Vec::new(alloc),
             ways: Ways::new(alloc, nodes)?,
         })
@@ -366,6 +365,6 @@ impl Joining {
                 return Ok(None);
             }
         }
-        Ok(Some(self.marks.listed(alloc)?))
+        Ok(Some(EdgeList::from_vec(self.marks.listed(alloc)?)))
     }
 }

@@ -6,14 +6,14 @@ use super::{Engine, NoMemory};
 use sg_graph::EdgeList;
 use sg_growth::Pair;
 use sg_nest::{Nest, Places, Region, Regions};
-use sg_region_ways::{EdgeMarks, Ways};
-use sg_slots::{entry, number, set_entry};
+use sg_region_ways::Ways;
+use sg_slots::{Marks, entry, number, set_entry};
 use std::alloc::Global;
 
 // Lists that are used from repair to repair.
 pub struct Changes {
     alloc: Global,
-    marks: EdgeMarks,
+    marks: Marks,
     order: Order,
     ways: Ways,
     // The number of this repair; for each terminal, the last repair that reversed its old way, and the
@@ -48,7 +48,7 @@ impl Changes {
     ) -> Result<Changes, NoMemory> {
         let mut changes = Changes {
             alloc,
-            marks: EdgeMarks::new(alloc, edges)?,
+            marks: Marks::new(alloc, edges)?,
             order: Order {
                 names: Vec::new(alloc),
                 places: Vec::new(alloc),
@@ -87,7 +87,7 @@ impl Changes {
         if !self.turn_new(engine, pair)? {
             return Ok(None);
         }
-        Ok(Some(self.marks.listed(self.alloc)?))
+        Ok(Some(EdgeList::from_vec(self.marks.listed(self.alloc)?)))
     }
 
     // Turns a shortest way between two mates, and says whether there is one.
@@ -177,7 +177,7 @@ impl Changes {
         if !query.is_in_join {
             self.marks.turn(query.edge);
         }
-        Ok(Some(self.marks.listed(self.alloc)?))
+        Ok(Some(EdgeList::from_vec(self.marks.listed(self.alloc)?)))
     }
 
     // What has changed in finished regions where an edge is taken out, by the pairs that may be new.

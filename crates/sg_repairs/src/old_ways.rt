@@ -5,8 +5,7 @@ use super::repairs::Query;
 use super::{Engine, NoMemory};
 use sg_graph::EdgeList;
 use sg_growth::Pair;
-use sg_region_ways::EdgeMarks;
-use sg_slots::{Slot, count_at, entry, number, set_entry, sum_up};
+use sg_slots::{Marks, Slot, count_at, entry, number, set_entry, sum_up};
 use std::alloc::Global;
 
 // A stretch of a list.
@@ -178,11 +177,11 @@ impl OldWays {
 
     // Joins all ways.
     fn join_all(&mut self, alloc: Global, engine: &Engine, edges: usize) -> Result<(), NoMemory> {
-        let mut join = EdgeMarks::new(alloc, edges)?;
+        let mut join = Marks::new(alloc, edges)?;
         for edge in &self.edges {
             join.turn(*edge);
         }
-        self.join = join.listed(alloc)?;
+        self.join = EdgeList::from_vec(join.listed(alloc)?);
         for edge in self.join.as_slice() {
             set_entry(&mut self.is_in_join, *edge, true);
             self.length = self.length.wrapping_add(length_of(engine, *edge));

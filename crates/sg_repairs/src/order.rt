@@ -3,8 +3,8 @@ use super::parts::Base;
 use super::{Engine, NoMemory};
 use sg_growth::{Pair, first_dart};
 use sg_nest::{Place, Region};
-use sg_region_ways::{EdgeMarks, Mates, Ways};
-use sg_slots::{entry, number, set_entry};
+use sg_region_ways::{Mates, Ways};
+use sg_slots::{Marks, entry, number, set_entry};
 
 // The finished regions in an order, each before its parts; for each region its place counted from the
 // end, and the radii of it and of all that it is a part of.
@@ -137,7 +137,7 @@ pub fn turn_way(
     pair: Pair,
     order: &Order,
     ways: &mut Ways,
-    marks: &mut EdgeMarks,
+    marks: &mut Marks,
 ) -> Result<bool, NoMemory> {
     let (Some(one), Some(other)) = (engine.seed(pair.one), engine.seed(pair.other)) else {
         return Ok(false);
