@@ -4,7 +4,7 @@ use Rattle.std.proofs.Math.Nat.{mul-le-mul_right}
 use Rattle.std.proofs.Math.Seq.{drop-append_seam}
 use Rattle.std.proofs.lemmas.Bool.{cases_lt}
 use Rattle.std.proofs.lemmas.List.{drop-append-le, get_or_append_left, get_or_push, length_push, take-append-le, take_all}
-use Rattle.sg_laws.proofs.Streams.{all_found, all_made, made_on, made_same, none_made}
+use Rattle.sg_laws.proofs.Streams.{all_found, all_made, made_on, none_made}
 use Rattle.sg_lattice.specs.declared.kind.Kind.TheVariants.{Cylinder}
 use Rattle.sg_lattice.specs.Tables.{lattice}
 use Rattle.sg_laws.specs.Stream.{Draws}
@@ -110,15 +110,6 @@ pub one_of : (rows cols : ℕ) (old new : ℕ → List ℤ) → Draws (draw_coun
 one_of rows cols old new h =
     let one : (m : ℕ) → m ≡ 1 * m = λ m. omega arith in
     record { samples = 1; few = omega arith; drawn = subst (λ n. Draws n old new) (one (draw_count rows cols)) h }
-
--- the same stream under another name
-pub samples_same : (rows cols most : ℕ) (f g new : ℕ → List ℤ) → ((c : ℕ) → f c ≡ g c) → DrawsSamples rows cols most f new
-    → DrawsSamples rows cols most g new
-samples_same rows cols most f g new same s = record {
-  samples = s.samples;
-  few = s.few;
-  drawn = made_same (s.samples * draw_count rows cols) f g new same s.drawn;
-}
 
 -- a stream behind some of its draws
 pub counts_behind : (mid new : ℕ → List ℤ) (m : ℕ) → ((c : ℕ) → length (mid c) ≡ c) → ((c : ℕ) → mid (m + c) ≡ mid m ++ new c) →

@@ -1,7 +1,7 @@
 -- The laws of walks: appended, turned round; and what distances say over an edge and over two ways that meet.
 use Rattle.std.proofs.Common.{◌≡◌, ℕ, ◌+◌, ◌<◌, ◌≤◌, List, [], ◌∷◌, ◌++◌, refl, sym, subst, arith}
 use Rattle.std.proofs.lemmas.List.Sums.{sum_by-append, sum_by-cons}
-use Rattle.sg_graph.specs.Web.{Graph, IsWeb, edge_at, edge_count, edge_weight, weight_of}
+use Rattle.sg_graph.specs.Web.{Graph, IsWeb, edge_at, edge_weight, weight_of}
 use Rattle.sg_graph.specs.Walk.{Leads, IsWebWalk, IsDistance, other_end}
 use Rattle.sg_graph.specs.Incidence.{EndsAt}
 
@@ -78,10 +78,6 @@ module _ (g : Graph) where
   -- an edge leads to its other end alone
   pub other_only : (e x y : ℕ) → Leads g e x y → y ≡ other_end x (edge_at g e)
   other_only e x y l = grind arith
-
-  -- both ends of an edge are nodes
-  pub other_low : (e x : ℕ) → IsWeb g → e < edge_count g → other_end x (edge_at g e) < g.nodes
-  other_low e x web low = grind arith
 
   -- an edge leads between nodes
   pub leads_low : (e x y : ℕ) → IsWeb g → Leads g e x y → (x < g.nodes) × (y < g.nodes)

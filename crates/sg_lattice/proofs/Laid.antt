@@ -18,11 +18,6 @@ in_block-from base end d lo hi = and_from (leb (2 * base) d) (ltb d (2 * end)) (
 in_block-parts : (base end d : ℕ) → in_block base end d ≡ true → (base ≤ d / 2) × (d / 2 < end)
 in_block-parts base end d h = grind arith
 
--- two blocks side by side are one
-pub blocks_joined : (lo mid hi d : ℕ) (t : Bool) → lo ≤ mid → mid ≤ hi
-    → cond {A = ℕ} (in_block lo mid d && t) 1 0 + cond {A = ℕ} (in_block mid hi d && t) 1 0 ≡ cond {A = ℕ} (in_block lo hi d && t) 1 0
-blocks_joined lo mid hi d t a b = grind arith
-
 -- darts at places, each of which leaves the spin of its place; `own` tells which they are
 record AreDarts (inst : Ising) (R C : ℕ) (has : ℕ → ℕ → Bool) (dart : ℕ → ℕ → ℕ) (own : ℕ → Bool) : Type 0 where
   at : (r c : ℕ) → r < R → c < C → has r c ≡ true → (own (dart r c) ≡ true) × (tail inst (dart r c) ≡ r * C + c)

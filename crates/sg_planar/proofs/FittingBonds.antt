@@ -1,6 +1,6 @@
 -- Planar duality over the definitions: a list of bonds that fits the faces is the list of broken bonds of an assignment; and it
 -- fits where on each face an even number of sides belong to bonds that are to join unlike spins.
-use Rattle.std.proofs.Common.{inl, inr, ap₂, ◌≡◌, ℕ, ◌+◌, ◌*◌, ◌%◌, ◌<◌, ℤ, pos, Bool, true, false, cond, ◌&&◌, List, refl, sym, ◌∙◌, ap, arith, get_or, length, ◌↔◌}
+use Rattle.std.proofs.Common.{inl, inr, ap₂, ◌≡◌, ℕ, ◌+◌, ◌*◌, ◌%◌, ◌<◌, pos, Bool, true, false, cond, ◌&&◌, List, refl, sym, ◌∙◌, ap, arith, get_or, length, ◌↔◌}
 use Rattle.std.specs.List.{range_with_len}
 use Rattle.std.proofs.lemmas.Bool.{cases_eq}
 use Rattle.sg_sums.specs.Parity.{xor, odd, parity_below}
@@ -13,15 +13,13 @@ use Rattle.sg_model.specs.Ising.{Ising, bond_at, bond_count}
 use Rattle.sg_model.specs.Rotation.{dart_count, next, tail}
 use Rattle.sg_model.specs.WellFormed.{IsInstance}
 use Rattle.sg_model.specs.Connected.{IsConnected}
-use Rattle.sg_model.specs.Spins.{IsAssignment, spin}
 use Rattle.sg_model.specs.Broken.{is_negative}
 use Rattle.sg_model.proofs.Darts.{tail_first, tail_second}
-use Rattle.sg_model.proofs.BrokenParity.{is_down}
 use Rattle.sg_faces.specs.Faces.{Labelling, IsFaceLabels, face_count, faces_before}
 use Rattle.sg_faces.specs.Sides.{sides_on}
 use Rattle.sg_faces.specs.Euler.{IsEuler}
 use Rattle.sg_faces.proofs.BareSpins.{faces_bonded}
-use Rattle.sg_planar.specs.BrokenLists.{FitsFaces, BreaksExactly}
+use Rattle.sg_planar.specs.BrokenLists.{FitsFaces}
 use Rattle.sg_planar.specs.Following.{is_unlike, FollowsBonds}
 use Rattle.sg_planar.proofs.PlanarDuality.{planar_duality, CutBy}
 use Rattle.sg_planar.proofs.FaceNumbers.{AreFaceNumbers, labels_number}
@@ -91,11 +89,6 @@ module _ (inst : Ising) (faces : Labelling) (list : List ℕ) where
         back a b e = odd_is b ∙ ap (λ x. cond {A = ℕ} x 1 0) (sym (xor_cancel (odd a) (odd b) e)) ∙ sym (odd_is a)
 
 module _ (inst : Ising) (good : IsInstance inst) where
-  -- an assignment that is down where the ends ask for it breaks the bonds of the list and no others
-  pub breaks_from_follows : (list : List ℕ) (down : ℕ → Bool) → FollowsBonds inst (is_unlike inst list) down →
-      (s : List ℤ) → IsAssignment inst s → ((x : ℕ) → x < inst.n → is_down (spin s x) ≡ down x) → BreaksExactly inst s list
-  breaks_from_follows list down follows s assigned same k l = grind arith
-
   module _ (faces : Labelling) (labels : IsFaceLabels inst faces) (connected : IsConnected inst) (genus_zero : IsEuler inst (pos 2))
       (list : List ℕ) (fits : FitsFaces inst faces list) where
     -- the bonds that are to join unlike spins are even on each face
