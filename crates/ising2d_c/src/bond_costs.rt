@@ -1,19 +1,14 @@
 // The costs of chosen bonds, by bounds that the caller keeps from call to call.
-ghost use Rattle.std.specs.Prelude.{◌≡◌, ◌≢◌, ◌⊎◌, ◌<◌, length, IfErr, IfOk};
+ghost use Rattle.std.specs.Prelude.{◌≡◌, ◌≢◌, ◌⊎◌, ◌<◌, length};
 ghost use Rattle.sg_limits.specs.Limits.{bond_limit, spin_limit, table_limit};
 ghost use Rattle.sg_draft.specs.Limits.{large_limits};
 ghost use Rattle.sg_bonds.specs.Bounds.{ForcedTablesExceed};
-ghost use Rattle.ising2d_c.specs.BondCosts.{BoundLists, FindsCosts, IsBoundsFault, SaysBounds, bound_lists};
-ghost use Rattle.ising2d_c.specs.Crossing.{TellsRefusal};
-ghost use Rattle.ising2d_c.specs.Graphs.{Finds, IsFitGraph, IsTooLarge, IsUnanswered, numbers, numbers_of};
+ghost use Rattle.sg_calls.specs.BondCosts.{FindsCosts, IsBoundsFault, bound_lists};
+ghost use Rattle.sg_calls.specs.Crossing.{TellsRefusal};
+ghost use Rattle.sg_calls.specs.Graphs.{Finds, IsFitGraph, numbers};
 
-use super::bounded::{bounded_graph, write_bounds};
-use super::crossing::{NO_PROOF, refuse};
-use super::graphs::Given;
-use super::unanswered::Unanswered;
-use sg_bonds::{Bound, costs_of};
+use sg_calls::{Given, NO_PROOF, Unanswered, bond_costs, refuse, write_bounds};
 use sg_cli::Status;
-use sg_limits::TABLE_LIMIT;
 use std::alloc::Global;
 
 /// Finds the costs of the asked bonds of a graph, and narrows the bounds of the others on the way.
@@ -57,24 +52,4 @@ pub extern "C" fn ising2d_c_bond_costs(
         Err(Unanswered::Fault(fault)) => refuse(alloc, &fault, line, line_written),
         Err(Unanswered::TablesTooLarge) => NO_PROOF,
     }
-}
-
-// The bounds when the costs of the asked bonds of the graph of these numbers are known.
-fn bond_costs(
-    alloc: Global,
-    given: &Given,
-    asked: &[u32],
-    low: &[i64],
-    high: &[i64],
-) -> Result<Vec<Bound>, Unanswered>
-    ensures gives { IfOk result (λ bounds. (after : BoundLists) → SaysBounds after bounds.items → Finds (IsFitGraph large_limits (numbers_of given.now))
-        (FindsCosts asked.now (bound_lists low.now high.now) after)) }
-    ensures low { IfOk result (λ bounds. length low.now ≡ length bounds.items) }
-    ensures high { IfOk result (λ bounds. length high.now ≡ length bounds.items) }
-    ensures refuses { IfErr result (IsUnanswered (IsBoundsFault large_limits (numbers_of given.now) asked.now (bound_lists low.now high.now))
-        (IsTooLarge (numbers_of given.now) (ForcedTablesExceed table_limit))) }
-{
-    let mut graph = bounded_graph(alloc, given, asked, low, high)?;
-    costs_of(alloc, &graph.planar, asked, &mut graph.bounds, TABLE_LIMIT)?;
-    Ok(graph.into_bounds())
 }

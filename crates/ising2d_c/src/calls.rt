@@ -5,21 +5,18 @@ ghost use Rattle.sg_limits.specs.Limits.{bond_limit, spin_limit, table_limit};
 ghost use Rattle.sg_bonds.specs.Cluster.{AreClusters};
 ghost use Rattle.sg_bonds.specs.Cost.{AreCosts};
 ghost use Rattle.sg_bonds.specs.Weakened.{WeakenedTablesExceed};
-ghost use Rattle.ising2d_c.specs.Proofs.{HandsLoops, HandsNest, loop_lists, nest_fault, nest_lists, stated_fault, States};
-ghost use Rattle.ising2d_c.specs.Crossing.{Shows, TellsRefusal};
-ghost use Rattle.ising2d_c.specs.Graphs.{Finds, IsFitFault, IsFitGraph, IsFitProofFault, IsGraph, IsProofFault, IsWallFault, numbers};
-ghost use Rattle.ising2d_c.specs.Grounds.{IsExact, IsGround, IsNested, IsNestVerdict, IsWallAtSeam, Judges};
+ghost use Rattle.sg_calls.specs.Proofs.{HandsLoops, HandsNest, loop_lists, nest_fault, nest_lists, stated_fault, States};
+ghost use Rattle.sg_calls.specs.Crossing.{Shows, TellsRefusal};
+ghost use Rattle.sg_calls.specs.Graphs.{Finds, IsFitFault, IsFitGraph, IsFitProofFault, IsGraph, IsProofFault, IsWallFault, numbers};
+ghost use Rattle.sg_calls.specs.Grounds.{IsExact, IsGround, IsNested, IsNestVerdict, IsWallAtSeam, Judges};
 ghost use Rattle.sg_draft.specs.Limits.{large_limits, program_limits};
 ghost use Rattle.sg_ground.specs.Allowance.{TablesExceed};
 ghost use Rattle.sg_wall.specs.Wall.{WallTablesExceed};
 
-use super::crossing::{NO_PROOF, fill, refuse};
-use super::graphs::Given;
-use super::judging::{code_by, judge, judge_nest};
-use super::nests::GivenNest;
-use super::stated::GivenLoops;
-use super::studies::{clusters_of, costs_of, ground_of, nest_of, wall_of};
-use super::unanswered::Unanswered;
+use sg_calls::{
+    Given, GivenLoops, GivenNest, NO_PROOF, Unanswered, clusters_of, code_by, costs_of, fill, ground_of, judge,
+    judge_nest, nest_of, refuse, wall_of,
+};
 use sg_cli::Status;
 use std::alloc::Global;
 

@@ -1,19 +1,14 @@
 // Bounds of the costs of all bonds at once.
-ghost use Rattle.std.specs.Prelude.{◌≡◌, ◌≢◌, ◌⊎◌, ◌<◌, [], length, IfErr, IfOk};
+ghost use Rattle.std.specs.Prelude.{◌≡◌, ◌≢◌, ◌⊎◌, ◌<◌, [], length};
 ghost use Rattle.sg_limits.specs.Limits.{bond_limit, spin_limit, table_limit};
 ghost use Rattle.sg_draft.specs.Limits.{large_limits};
 ghost use Rattle.sg_bonds.specs.Weakened.{WeakenedTablesExceed};
-ghost use Rattle.ising2d_c.specs.BondCosts.{BoundLists, DecidesBonds, IsBoundsFault, SaysBounds, bound_lists};
-ghost use Rattle.ising2d_c.specs.Crossing.{TellsRefusal};
-ghost use Rattle.ising2d_c.specs.Graphs.{Finds, IsFitGraph, IsTooLarge, IsUnanswered, numbers, numbers_of};
+ghost use Rattle.sg_calls.specs.BondCosts.{DecidesBonds, IsBoundsFault, bound_lists};
+ghost use Rattle.sg_calls.specs.Crossing.{TellsRefusal};
+ghost use Rattle.sg_calls.specs.Graphs.{Finds, IsFitGraph, numbers};
 
-use super::bounded::{bounded_graph, write_bounds};
-use super::crossing::{NO_PROOF, refuse};
-use super::graphs::Given;
-use super::unanswered::Unanswered;
-use sg_bonds::{Bound, bond_bounds};
+use sg_calls::{Given, NO_PROOF, Unanswered, cost_bounds, refuse, write_bounds};
 use sg_cli::Status;
-use sg_limits::TABLE_LIMIT;
 use std::alloc::Global;
 
 /// Narrows bounds of the costs of all bonds of a graph at once.
@@ -57,24 +52,4 @@ pub extern "C" fn ising2d_c_cost_bounds(
         Err(Unanswered::Fault(fault)) => refuse(alloc, &fault, line, line_written),
         Err(Unanswered::TablesTooLarge) => NO_PROOF,
     }
-}
-
-// The narrowed bounds of the graph of these numbers.
-fn cost_bounds(
-    alloc: Global,
-    given: &Given,
-    rounds: u32,
-    low: &[i64],
-    high: &[i64],
-) -> Result<Vec<Bound>, Unanswered>
-    ensures gives { IfOk result (λ bounds. (after : BoundLists) → SaysBounds after bounds.items → Finds (IsFitGraph large_limits (numbers_of given.now))
-        (DecidesBonds (bound_lists low.now high.now) after)) }
-    ensures low { IfOk result (λ bounds. length low.now ≡ length bounds.items) }
-    ensures high { IfOk result (λ bounds. length high.now ≡ length bounds.items) }
-    ensures refuses { IfErr result (IsUnanswered (IsBoundsFault large_limits (numbers_of given.now) [] (bound_lists low.now high.now))
-        (IsTooLarge (numbers_of given.now) (WeakenedTablesExceed table_limit))) }
-{
-    let mut graph = bounded_graph(alloc, given, &[], low, high)?;
-    bond_bounds(alloc, &graph.planar, &mut graph.bounds, rounds, TABLE_LIMIT)?;
-    Ok(graph.into_bounds())
 }

@@ -4,17 +4,14 @@ ghost use Rattle.std.specs.Prelude.{◌≡◌, ◌≢◌, ◌⊎◌, ◌<◌, le
 ghost use Rattle.sg_limits.specs.Limits.{spin_limit, table_limit};
 ghost use Rattle.sg_graph_text.specs.Graph.{terminals_fault, terminals_of};
 ghost use Rattle.sg_tjoin.specs.Allowance.{table_bytes};
-ghost use Rattle.ising2d_c.specs.Crossing.{Shows, TellsRefusal};
-ghost use Rattle.ising2d_c.specs.Joins.{HandsJoins, IsJoinVerdict, IsMinimumJoin, join_lists, SomeTablesExceed};
-ghost use Rattle.ising2d_c.specs.Networks.{GivesWeb, IsStatedFault, IsWebFault, lists_test, terminal_lists, web_by, web_numbers};
-ghost use Rattle.ising2d_c.specs.Proofs.{HandsNest, lists_fault, nest_lists};
+ghost use Rattle.sg_calls.specs.Crossing.{Shows, TellsRefusal};
+ghost use Rattle.sg_calls.specs.Joins.{HandsJoins, IsJoinVerdict, IsMinimumJoin, join_lists, SomeTablesExceed};
+ghost use Rattle.sg_calls.specs.Networks.{GivesWeb, IsStatedFault, IsWebFault, lists_test, terminal_lists, web_by, web_numbers};
+ghost use Rattle.sg_calls.specs.Proofs.{HandsNest, lists_fault, nest_lists};
 
-use super::crossing::{NO_PROOF, fill, refuse};
-use super::joining::{join_of, joins_of, judge_join};
-use super::nests::GivenNest;
-use super::networks::GivenWeb;
-use super::terminal_lists::GivenLists;
-use super::unanswered::Unanswered;
+use sg_calls::{
+    GivenLists, GivenNest, GivenWeb, NO_PROOF, Unanswered, fill, join_of, joins_of, judge_join, refuse,
+};
 use sg_cli::Status;
 use std::alloc::Global;
 

@@ -15,39 +15,15 @@
 //! 4 GiB. Any numbers may be passed: if they describe no instance, the function names the first fault by
 //! the line that the program prints. It trusts that pointers and lengths are what they say.
 //!
-//! For the next engineer: each export has the contract of `sg_cli::run`, `sg_ground::solve`,
-//! `Checker::check` and the others, over the lists that cross. `specs/Crossing.antt` says what is in a
-//! caller's place, and how lists of lists are two lists. `specs/Graphs.antt` and `specs/Lattices.antt`
-//! say which numbers give an instance and what is wrong with others, by the tests of `sg_draft`;
-//! `specs/Proofs.antt` says the same of a proof by loops and by a nest. `specs/Grounds.antt` says what
-//! is answered, and `specs/Running.antt` how a run ends. `calls.rt` and `tables.rt` have the exports;
-//! the answers are computed in `studies.rt` and `judging.rt`, which see no caller's memory. For weighted
-//! graphs these are `specs/Networks.antt`, `specs/Joins.antt`, `joins.rt` and `joining.rt`, and for bounds of
-//! costs `specs/BondCosts.antt`, `bounded.rt`, `bond_costs.rt` and `cost_bounds.rt`. A list that
-//! does not fit is cut off, so no clause requires room. The header for C and the Python module are in
-//! `bindings/`, and tested there.
+//! For the next engineer: what is answered is computed in `sg_calls`, whose `specs/` say what each clause here
+//! means; an export takes a caller's numbers to it, and fills the caller's places. A list that does not fit is cut
+//! off, so no clause requires room. The header for C and the Python module are in `bindings/`, and tested there.
 #![tactic(auto)]
 
 mod bond_costs;
-mod bounded;
 mod calls;
 mod cost_bounds;
-mod crossing;
 mod draws;
-mod graphs;
-mod held;
-mod joining;
 mod joins;
-mod judging;
-mod lattices;
-mod nests;
-mod networks;
-mod rows;
 mod running;
-mod starts;
-mod stated;
-mod studies;
 mod tables;
-mod terminal_lists;
-mod unanswered;
-mod words;

@@ -1,8 +1,7 @@
 // A whole run for a caller: words and input in, a text and a status out.
-ghost use Rattle.ising2d_c.specs.Running.{Ends};
+ghost use Rattle.sg_calls.specs.Running.{Ends};
 
-use super::crossing::fill;
-use super::words::words_in;
+use sg_calls::{fill, words_in};
 use sg_cli::{Status, answer_with_all_laws};
 use std::alloc::{AllocError, Global};
 

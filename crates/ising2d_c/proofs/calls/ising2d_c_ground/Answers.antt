@@ -1,7 +1,7 @@
 use Rattle.std.proofs.Common.{rules, ◌≡◌, ◌∙◌, ap, length, w64, to_z-of_z}
 use Rattle.std.proofs.lemmas.List.{length-map}
-use Rattle.ising2d_c.specs.Proofs.{loop_lists}
-use Rattle.ising2d_c.proofs.CrossingLemmas.{shows}
+use Rattle.sg_calls.specs.Proofs.{loop_lists}
+use Rattle.sg_calls.proofs.CrossingLemmas.{shows}
 use Rattle.ising2d_c.proofs.calls.ising2d_c_ground.Goals as goal
 
 pub returns-in-Ok-clause-found : goal.returns-in-Ok-clause-found

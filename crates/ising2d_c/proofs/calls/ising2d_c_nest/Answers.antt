@@ -1,6 +1,6 @@
 use Rattle.std.proofs.Common.{rules, ◌≡◌, ◌∙◌, length, w64, to_z-of_z}
-use Rattle.ising2d_c.specs.Proofs.{nest_lists}
-use Rattle.ising2d_c.proofs.CrossingLemmas.{shows}
+use Rattle.sg_calls.specs.Proofs.{nest_lists}
+use Rattle.sg_calls.proofs.CrossingLemmas.{shows}
 use Rattle.ising2d_c.proofs.calls.ising2d_c_nest.Goals as goal
 
 pub returns-in-Ok-clause-found : goal.returns-in-Ok-clause-found

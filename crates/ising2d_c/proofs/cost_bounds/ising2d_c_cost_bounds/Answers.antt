@@ -1,4 +1,4 @@
-use Rattle.ising2d_c.specs.BondCosts.{bound_lists}
+use Rattle.sg_calls.specs.BondCosts.{bound_lists}
 use Rattle.ising2d_c.proofs.cost_bounds.ising2d_c_cost_bounds.Goals as goal
 
 pub returns-in-Ok-clause-found : goal.returns-in-Ok-clause-found

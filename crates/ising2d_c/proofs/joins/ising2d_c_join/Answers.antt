@@ -1,7 +1,7 @@
 use Rattle.std.proofs.Common.{rules, ◌≡◌, ◌∙◌, length, w64, to_z-of_z}
-use Rattle.ising2d_c.specs.Proofs.{nest_lists}
-use Rattle.ising2d_c.proofs.CrossingLemmas.{shows}
-use Rattle.ising2d_c.proofs.JoinLemmas.{large_only}
+use Rattle.sg_calls.specs.Proofs.{nest_lists}
+use Rattle.sg_calls.proofs.CrossingLemmas.{shows}
+use Rattle.sg_calls.proofs.JoinLemmas.{large_only}
 use Rattle.ising2d_c.proofs.joins.ising2d_c_join.Goals as goal
 
 pub returns-in-Ok-clause-found : goal.returns-in-Ok-clause-found

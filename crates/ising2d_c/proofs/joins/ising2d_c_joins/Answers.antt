@@ -1,7 +1,7 @@
 use Rattle.std.proofs.Common.{rules, ◌≡◌, length}
-use Rattle.ising2d_c.specs.Joins.{join_lists}
-use Rattle.ising2d_c.proofs.CrossingLemmas.{shows}
-use Rattle.ising2d_c.proofs.JoinLemmas.{some_large_only}
+use Rattle.sg_calls.specs.Joins.{join_lists}
+use Rattle.sg_calls.proofs.CrossingLemmas.{shows}
+use Rattle.sg_calls.proofs.JoinLemmas.{some_large_only}
 use Rattle.ising2d_c.proofs.joins.ising2d_c_joins.Goals as goal
 
 pub returns-in-Ok-clause-found : goal.returns-in-Ok-clause-found

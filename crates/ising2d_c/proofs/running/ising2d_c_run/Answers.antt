@@ -1,5 +1,5 @@
 use Rattle.std.proofs.Common.{ap, length, map, string_bytes}
-use Rattle.ising2d_c.specs.Running.{Answered}
+use Rattle.sg_calls.specs.Running.{Answered}
 use Rattle.ising2d_c.proofs.running.ising2d_c_run.Goals as goal
 
 pub returns-in-Ok : goal.returns-in-Ok

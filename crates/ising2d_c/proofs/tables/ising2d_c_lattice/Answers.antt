@@ -1,22 +1,19 @@
 use Rattle.std.proofs.Common.{rules, ◌≡◌, length}
-use Rattle.std.specs.Prelude.{min}
-use Rattle.sg_limits.specs.Limits.{large_spin_limit}
-use Rattle.ising2d_c.specs.Lattices.{table_lists}
-use Rattle.ising2d_c.proofs.CrossingLemmas.{shows}
+use Rattle.sg_calls.specs.Lattices.{table_lists}
+use Rattle.sg_calls.proofs.CrossingLemmas.{shows}
 use Rattle.ising2d_c.proofs.tables.ising2d_c_lattice.Goals as goal
 
 pub returns-in-Ok-clause-found : goal.returns-in-Ok-clause-found
 returns-in-Ok-clause-found c = λ done.
     let all = c.in-Ok.ensures.gives in
     let found = c.in-Ok.found in
-    let most : c.min.result ≡ min c.args.most_spins large_spin_limit = search rules in
     let ends : c.len.result ≡ length found.ends.items = search rules in
     let starts : c.len-in-Ok.result ≡ length found.starts.items = search rules in
     let darts : c.len-in-Ok-2.result ≡ length found.darts.items = search rules in
     let seam : c.len-in-Ok-3.result ≡ length found.seam = search rules in
     record {
       instance = all.instance;
-      given = rw most at all.given;
+      given = all.given;
       study = record {
         lists = table_lists found.ends.items found.starts.items found.darts.items found.seam;
         tables = all.study;

@@ -1,8 +1,0 @@
-use Rattle.std.proofs.Common.{arith, ◌≡◌, length}
-use Rattle.std.proofs.lemmas.Bool.{eq-eqb}
-use Rattle.ising2d_c.proofs.bounded.wrong_high.Goals as goal
-
-pub returns-clause-value : goal.returns-clause-value
-returns-clause-value c =
-    let count : length c.args.high.now ≡ c.args.count = omega arith in
-    rw (eq-eqb (length c.args.high.now) c.args.count count) c.first_crossed.ensures

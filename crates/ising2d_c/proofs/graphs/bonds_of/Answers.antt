@@ -1,8 +1,0 @@
-use Rattle.ising2d_c.specs.Graphs.{bond_by}
-use Rattle.ising2d_c.proofs.RowLemmas.{made-more}
-use Rattle.ising2d_c.proofs.graphs.bonds_of.Goals as goal
-
-pub loop-k-preserved : goal.loop-k-preserved
-loop-k-preserved c =
-    made-more (bond_by c.args.ends.now c.args.couplings.now) c.loop-k.bonds _ c.bond_by.result c.loop-k.k c.loop-k.invariant c.in_ok-push.ensures.ok
-    c.bond_by.ensures

@@ -1,8 +1,0 @@
-use Rattle.ising2d_c.specs.Networks.{edge_by}
-use Rattle.ising2d_c.proofs.RowLemmas.{made-more}
-use Rattle.ising2d_c.proofs.networks.edges_of.Goals as goal
-
-pub loop-k-preserved : goal.loop-k-preserved
-loop-k-preserved c =
-    made-more (edge_by c.args.ends.now c.args.weights.now) c.loop-k.edges _ c.edge_by.result c.loop-k.k c.loop-k.invariant c.in_ok-push.ensures.ok
-    c.edge_by.ensures

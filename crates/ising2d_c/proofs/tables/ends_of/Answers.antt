@@ -1,6 +1,0 @@
-use Rattle.std.proofs.Common.{arith}
-use Rattle.std.proofs.lemmas.Grind.{common_steps}
-use Rattle.ising2d_c.proofs.tables.ends_of.Goals as goal
-
-pub loop-bond-preserved : goal.loop-bond-preserved
-loop-bond-preserved c = grind (arith, common_steps)

@@ -1,0 +1,8 @@
+use Rattle.std.proofs.Common.{arith, ◌≡◌, length}
+use Rattle.std.proofs.lemmas.Bool.{eq-eqb}
+use Rattle.sg_calls.proofs.bounded.wrong_low.Goals as goal
+
+pub returns-clause-value : goal.returns-clause-value
+returns-clause-value c =
+    let count : length c.args.low.now ≡ c.args.count = omega arith in
+    rw (eq-eqb (length c.args.low.now) c.args.count count) c.first_low.ensures
