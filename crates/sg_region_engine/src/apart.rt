@@ -1,10 +1,9 @@
 // What `sg_repairs` may do to an engine at rest: read its regions, put finished ones back, take some of them
 // apart, and let what is left over grow on. Nobody else calls this.
-use super::{Engine, Exit, HeadStart};
+use super::{Engine, Exit, Lists};
 use crate::NoMemory;
-use crate::slices::Batches;
-use sg_forest::{Contact, Forest, Link};
-use sg_growth::{Adjacency, Clock, Cover, Hubs};
+use sg_forest::{Contact, Forest};
+use sg_growth::{Adjacency, Cover};
 use sg_slots::number;
 use sg_work::{Limit, Work};
 use std::alloc::Global;
@@ -12,25 +11,15 @@ use std::alloc::Global;
 /// An engine without its arcs and terminals.
 #[derive(Drop)]
 pub struct Parts<L: Limit> {
-    cover: Cover,
-    forest: Forest<L>,
-    hubs: Hubs,
-    clock: Clock,
-    cycle: Vec<Link>,
-    inner: Vec<u32>,
+    // No hub is open.
+    pub(super) lists: Lists,
+    pub(super) forest: Forest<L>,
 }
 
 impl<L: Limit> Parts<L> {
     /// What of an engine outlives its arcs.
     pub fn of<'a>(engine: Engine<'a, L>) -> Parts<L> {
-        Parts {
-            cover: engine.cover,
-            forest: engine.forest,
-            hubs: engine.hubs,
-            clock: engine.clock,
-            cycle: engine.cycle,
-            inner: engine.inner,
-        }
+        engine.into_parts()
     }
 
     /// An engine of these parts, over the same arcs and terminals, in which no hub is open. It may do no work
@@ -41,25 +30,8 @@ impl<L: Limit> Parts<L> {
         arcs: &'a Adjacency,
         terminals: &'a [u32],
     ) -> Engine<'a, L> {
-        Engine {
-            alloc,
-            arcs,
-            terminals,
-            cover: self.cover,
-            forest: self.forest,
-            hubs: self.hubs,
-            clock: self.clock,
-            work: Work::new(0),
-            is_first: false,
-            is_open: false,
-            head_start: HeadStart::None,
-            is_sliced: false,
-            batches: Batches::new(alloc),
-            rests: 0,
-            unpaired: 0,
-            cycle: self.cycle,
-            inner: self.inner,
-        }
+        let Parts { lists, forest } = self;
+        lists.engine(alloc, arcs, terminals, forest, Work::new(0))
     }
 }
 
@@ -154,12 +126,17 @@ impl<'a, L: Limit> Engine<'a, L> {
     pub fn grow_from(&mut self, roots: &[Exit], work: Work<L>) -> Result<bool, NoMemory> {
         self.unpaired = number(roots.len());
         self.work = work;
+        self.make_roots(roots)?;
+        self.go_on()
+    }
+
+    // Each of these tops becomes the root of a tree.
+    pub(super) fn make_roots(&mut self, roots: &[Exit]) -> Result<(), NoMemory> {
         let now = self.clock.now();
         for root in roots {
             self.forest.make_root(root.region, root.terminal, now);
         }
-        self.wake_roots(roots)?;
-        self.go_on()
+        self.wake_roots(roots)
     }
 
     // Enters the first events of these roots.

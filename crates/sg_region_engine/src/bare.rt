@@ -70,11 +70,9 @@ impl<'a, L: Limit> Engine<'a, L> {
 
     // The outer region over a node, if it reaches just so far beyond.
     fn touch_over(&self, node: u32, length: i64) -> Option<Reach> {
-        let there = self.outer_reach(node)?;
-        if there.by == length {
-            Some(there)
-        } else {
-            None
+        match self.outer_reach(node) {
+            Some(there) if there.by == length => Some(there),
+            _ => None,
         }
     }
 

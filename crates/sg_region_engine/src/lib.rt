@@ -91,7 +91,6 @@ struct Sight {
 /// The regions at a time, over the nodes that they have taken.
 ///
 /// A region has a name: below the number of terminals that of its terminal, all others are blossoms.
-#[derive(Drop)]
 pub struct Engine<'a, L: Limit> {
     // The allocator of all lists.
     alloc: Global,
@@ -128,6 +127,13 @@ pub struct Engine<'a, L: Limit> {
     cycle: Vec<Link>,
     // Regions that were inner: a list that is used again.
     inner: Vec<u32>,
+}
+
+// An explicit `Drop`: otherwise every exit of an owner drops each list, and the prover pays for each.
+impl<'a, L: Limit> Drop for Engine<'a, L> {
+    fn drop(self) {
+        let _parts = self.into_parts();
+    }
 }
 
 // How many regions there is room for at first.
@@ -167,26 +173,51 @@ impl<'a, L: Limit> Engine<'a, L> {
         requires events { allowed.work ≤ L.events }
     {
         let room = room_for(terminals);
-        let is_open = lists.has_hub && !matches!(method, Method::InClosedHalves);
-        Ok(Engine {
-            alloc,
-            arcs,
-            terminals,
-            cover: lists.cover,
-            forest: Forest::new(alloc, terminals.len(), room, allowed.blossoms)?,
-            hubs: lists.hubs,
-            clock: lists.clock,
-            work: Work::new(allowed.work),
-            is_first: matches!(method, Method::InHalves | Method::InClosedHalves),
-            is_open,
-            head_start: HeadStart::None,
-            is_sliced: matches!(method, Method::InSlices),
-            batches: Batches::new(alloc),
-            rests: 0,
-            unpaired: 0,
-            cycle: lists.cycle,
-            inner: lists.inner,
-        })
+        let forest = Forest::new(alloc, terminals.len(), room, allowed.blossoms)?;
+        let work = Work::new(allowed.work);
+        let mut engine = lists.engine(alloc, arcs, terminals, forest, work);
+        match method {
+            Method::InSlices => engine.is_sliced = true,
+            Method::AtOnce => {}
+            Method::InHalves => engine.is_first = true,
+            Method::InClosedHalves => {
+                engine.is_first = true;
+                engine.is_open = false;
+            }
+        }
+        Ok(engine)
+    }
+
+    // What outlives its arcs.
+    fn into_parts(self) -> Parts<L> {
+        let Engine {
+            alloc: _,
+            arcs: _,
+            terminals: _,
+            cover,
+            forest,
+            hubs,
+            clock,
+            work: _work,
+            is_first: _,
+            is_open: _,
+            head_start: _,
+            is_sliced: _,
+            batches: _batches,
+            rests: _,
+            unpaired: _,
+            cycle,
+            inner,
+        } = self;
+        let lists = Lists {
+            cover,
+            hubs,
+            clock,
+            cycle,
+            inner,
+            has_hub: false,
+        };
+        Parts { lists, forest }
     }
 
     /// How terminals grow before events are entered. Not at all where this is not called before a run.
@@ -219,17 +250,18 @@ impl<'a, L: Limit> Engine<'a, L> {
     // The reach of the region over a node, if one covers it.
     #[inline(always)]
     fn reach_at(&self, node: u32) -> Option<Reach> {
-        Some(self.reach(&self.cover.held(node)?))
+        match self.cover.held(node) {
+            Some(held) => Some(self.reach(&held)),
+            None => None,
+        }
     }
 
     // The reach of the region over a node, if it is outer.
     #[inline(always)]
     fn outer_reach(&self, node: u32) -> Option<Reach> {
-        let here = self.reach_at(node)?;
-        if here.role == Role::Outer {
-            Some(here)
-        } else {
-            None
+        match self.reach_at(node) {
+            Some(here) if here.role == Role::Outer => Some(here),
+            _ => None,
         }
     }
 
@@ -265,15 +297,6 @@ impl<'a, L: Limit> Engine<'a, L> {
         Sight {
             time,
             is_own: false,
-        }
-    }
-
-    // The way back of an arc that leaves a node.
-    fn way_back(&self, node: u32, arc: &Arc) -> Arc {
-        Arc {
-            dart: reverse(arc.dart),
-            to: node,
-            length: arc.length,
         }
     }
 }

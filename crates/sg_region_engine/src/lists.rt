@@ -2,16 +2,16 @@
 //
 // What a run has written is cleared in time linear in its regions, in the nodes that they have and in the events
 // that wait, and not in the graph.
-use super::Engine;
 use super::open_hubs::has_hub;
+use super::slices::Batches;
+use super::{Engine, HeadStart, Parts};
 use crate::NoMemory;
-use sg_forest::Link;
+use sg_forest::{Forest, Link};
 use sg_growth::{Adjacency, Clock, Cover, Hubs, NEVER};
-use sg_work::Limit;
+use sg_work::{Limit, Work};
 use std::alloc::Global;
 
 /// The lists of an engine about the nodes and arcs of a graph, before a run.
-#[derive(Drop)]
 pub struct Lists {
     pub(super) cover: Cover,
     pub(super) hubs: Hubs,
@@ -20,6 +20,20 @@ pub struct Lists {
     pub(super) inner: Vec<u32>,
     // Whether any node is a hub.
     pub(super) has_hub: bool,
+}
+
+// Explicit for the same reason as that of `Engine`.
+impl Drop for Lists {
+    fn drop(self) {
+        let Lists {
+            cover: _cover,
+            hubs: _hubs,
+            clock: _clock,
+            cycle: _cycle,
+            inner: _inner,
+            has_hub: _,
+        } = self;
+    }
 }
 
 impl Lists {
@@ -45,17 +59,52 @@ impl Lists {
 
     /// The lists of an engine whose run has come to its end, as they were before.
     pub fn of<'a, L: Limit>(engine: Engine<'a, L>, has_hub: bool) -> Lists {
-        let mut lists = Lists {
-            cover: engine.cover,
-            hubs: engine.hubs,
-            clock: engine.clock,
-            cycle: engine.cycle,
-            inner: engine.inner,
-            has_hub,
-        };
+        let Parts {
+            mut lists,
+            forest: _forest,
+        } = engine.into_parts();
+        lists.has_hub = has_hub;
         lists.cover.clear();
         lists.hubs.forget();
         lists.clock.set(0, NEVER);
         lists
+    }
+
+    // An engine over these lists, with these regions, that may do so much work. Hubs are open.
+    pub(super) fn engine<'a, L: Limit>(
+        self,
+        alloc: Global,
+        arcs: &'a Adjacency,
+        terminals: &'a [u32],
+        forest: Forest<L>,
+        work: Work<L>,
+    ) -> Engine<'a, L> {
+        let Lists {
+            cover,
+            hubs,
+            clock,
+            cycle,
+            inner,
+            has_hub,
+        } = self;
+        Engine {
+            alloc,
+            arcs,
+            terminals,
+            cover,
+            forest,
+            hubs,
+            clock,
+            work,
+            is_first: false,
+            is_open: has_hub,
+            head_start: HeadStart::None,
+            is_sliced: false,
+            batches: Batches::new(alloc),
+            rests: 0,
+            unpaired: 0,
+            cycle,
+            inner,
+        }
     }
 }

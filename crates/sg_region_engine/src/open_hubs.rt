@@ -17,7 +17,6 @@ use sg_forest::{Contact, End, Link, Role};
 use sg_growth::{Adjacency, reverse};
 use sg_slots::{Slot, entry, number, set_entry};
 use sg_work::Limit;
-use std::mem::swap;
 
 // A node with more arcs is a hub here. A heap of its own pays only where there are many more (`Hubs`).
 const MOST_ARCS: usize = 16;
@@ -89,9 +88,7 @@ impl<'a, L: Limit> Engine<'a, L> {
         let tree = self.forest.tree(self.forest.top(own.terminal));
         let contact = Contact::with_node(own, reverse(own.dart));
         self.forest.flip_pairs(contact, &mut self.work);
-        self.unpaired = self.unpaired.saturating_sub(1);
-        self.batches.end(tree);
-        self.let_go(tree)
+        self.end_tree(tree)
     }
 
     // A tree comes to a region that is paired with an open hub: the two are paired, and the tree is dissolved.
@@ -99,9 +96,7 @@ impl<'a, L: Limit> Engine<'a, L> {
         let tree = self.forest.tree(self.forest.top(contact.own.terminal));
         self.forest.flip_pairs(contact, &mut self.work);
         self.forest.set_pair(contact.reversed());
-        self.unpaired = self.unpaired.saturating_sub(1);
-        self.batches.end(tree);
-        self.let_go(tree)
+        self.end_tree(tree)
     }
 
     // Closes all hubs, and pairs the guests of each with one another.
@@ -137,11 +132,10 @@ impl<'a, L: Limit> Engine<'a, L> {
         if !self.cover.is_open(name) || self.forest.role(name) != Role::Free {
             return None;
         }
-        let pair = self.forest.pair(name)?;
-        if !pair.is_with_node() {
-            return None;
+        match self.forest.pair(name) {
+            Some(pair) if pair.is_with_node() => Some(self.arcs.arc(pair.own.dart).to),
+            _ => None,
         }
-        Some(self.arcs.arc(pair.own.dart).to)
     }
 
     // Lists where the guests of a hub touch it, in place of what the list had.
@@ -218,23 +212,19 @@ impl<'a, L: Limit> Engine<'a, L> {
 
     // An odd number of guests becomes a free blossom of radius 0, paired with none.
     fn rest_at_hub(&mut self, ends: &[End]) -> Result<(), NoMemory> {
-        let mut cycle = Vec::new(self.alloc);
-        swap(&mut cycle, &mut self.cycle);
-        cycle.clear();
+        self.cycle.clear();
         for (place, end) in ends.iter().enumerate() {
             if let Some(other) = next_end(ends, place) {
-                cycle.push(Link {
-                    child: self.forest.top(end.terminal),
-                    contact: self.contact_at_hub(*end, other),
-                })?;
+                let child = self.forest.top(end.terminal);
+                let contact = self.contact_at_hub(*end, other);
+                self.cycle.push(Link { child, contact })?;
             }
         }
         let now = self.clock.now();
-        let blossom = self.forest.enclose(&cycle, now, &mut self.work)?;
+        let blossom = self.forest.enclose(&self.cycle, now, &mut self.work)?;
         self.forest.set_role(blossom, Role::Free, now);
         self.cover.open(blossom)?;
-        self.append_rows(&cycle, blossom);
-        swap(&mut cycle, &mut self.cycle);
+        self.append_rows(blossom);
         Ok(())
     }
 }

@@ -10,12 +10,11 @@
 // Two outer regions have to meet at a whole time. Where arcs are twice as long as edges weigh, the radii
 // of all outer regions are odd at odd times and even at even ones. A cycle that came to rest at a time of
 // the other kind becomes a root one later; and where arcs are four times as long, two later.
-use super::Engine;
+use super::{Engine, Exit};
 use crate::NoMemory;
-use sg_forest::{Contact, Link, Role};
+use sg_forest::{Contact, Role};
 use sg_slots::number;
 use sg_work::Limit;
-use std::mem::swap;
 
 impl<'a, L: Limit> Engine<'a, L> {
     /// Runs until each terminal has a mate. False if that did not come about within the work allowed. All
@@ -40,16 +39,14 @@ impl<'a, L: Limit> Engine<'a, L> {
         self.go_on()
     }
 
-    // Leaves a cycle at rest that was closed in a tree, and lets the tree go.
-    pub(super) fn rest(&mut self, blossom: u32, inner: &[u32]) -> Result<(), NoMemory> {
+    // Leaves a cycle at rest that was closed in a tree, and lets the tree go. Regions of the cycle that were inner
+    // are listed from a place on.
+    pub(super) fn rest(&mut self, blossom: u32, start: usize) -> Result<(), NoMemory> {
         let tree = self.forest.tree(blossom);
         self.forest.leave_unpaired(blossom, &mut self.work);
         self.rests = self.rests.saturating_add(1);
         self.let_go(tree)?;
-        for name in inner {
-            self.wake_around_region(*name)?;
-        }
-        Ok(())
+        self.wake_inner(start, None)
     }
 
     // A tree comes to what is at rest: the pairs on the way to the root change sides, and what rests is paired:
@@ -57,7 +54,6 @@ impl<'a, L: Limit> Engine<'a, L> {
     pub(super) fn augment_rest(&mut self, contact: Contact) -> Result<(), NoMemory> {
         let tree = self.forest.tree(self.forest.top(contact.own.terminal));
         let rest = self.forest.top(contact.other.terminal);
-        self.batches.end(tree);
         self.batches.end(self.forest.tree(rest));
         self.forest.flip_pairs(contact, &mut self.work);
         if self.is_first {
@@ -67,8 +63,8 @@ impl<'a, L: Limit> Engine<'a, L> {
             self.forest.set_pair(contact.reversed());
         }
         self.rests = self.rests.saturating_sub(1);
-        self.unpaired = self.unpaired.saturating_sub(2);
-        self.let_go(tree)
+        self.unpaired = self.unpaired.saturating_sub(1);
+        self.end_tree(tree)
     }
 
     // Takes a cycle at rest apart: one of its regions is paired by a contact, the others along the cycle.
@@ -77,23 +73,9 @@ impl<'a, L: Limit> Engine<'a, L> {
         let size = self.forest.cycles().size(blossom);
         self.take_apart(blossom)?;
         self.forest.free_name(blossom)?;
-        let mut way = Vec::new(self.alloc);
-        swap(&mut way, &mut self.cycle);
-        self.pair_round(contact, size, &mut way)?;
-        swap(&mut way, &mut self.cycle);
-        Ok(())
-    }
-
-    // Pairs the top of a contact by it, and the others of its cycle along the cycle.
-    fn pair_round(
-        &mut self,
-        contact: Contact,
-        size: u32,
-        way: &mut Vec<Link>,
-    ) -> Result<(), NoMemory> {
         let first = self.forest.top(contact.own.terminal);
-        self.forest.list_ahead(first, size, way)?;
-        for (step, link) in way.iter().enumerate() {
+        self.forest.list_ahead(first, size, &mut self.cycle)?;
+        for (step, link) in self.cycle.iter().enumerate() {
             if step % 2 == 1 {
                 self.forest.pair_by(link.contact);
             }
@@ -115,26 +97,24 @@ impl<'a, L: Limit> Engine<'a, L> {
         let mut roots = Vec::new(self.alloc);
         for name in 0..number(self.forest.len()) {
             if self.is_at_rest(name) {
-                if self.is_in_step(name, unit) {
-                    roots.push(name)?;
+                let terminal = self.terminal_in(name);
+                if self.is_in_step(terminal, unit) {
+                    roots.push(Exit {
+                        region: name,
+                        terminal,
+                    })?;
                 } else {
                     self.clock.expect_root(name, unit)?;
                 }
             }
         }
-        for name in &roots {
-            self.make_root(*name);
-        }
-        for name in &roots {
-            self.wake_region(*name, *name)?;
-        }
-        Ok(())
+        self.make_roots(&roots)
     }
 
-    // Whether the radii over a terminal of a region are an odd number of units just where the time is.
-    fn is_in_step(&self, name: u32, unit: i64) -> bool {
+    // Whether the radii over a terminal are an odd number of units just where the time is.
+    fn is_in_step(&self, terminal: u32, unit: i64) -> bool {
         let now = self.clock.now();
-        let reach = self.forest.reach(self.terminal_in(name), now);
+        let reach = self.forest.reach(terminal, now);
         reach.by.wrapping_sub(now) & unit == 0
     }
 
@@ -147,18 +127,13 @@ impl<'a, L: Limit> Engine<'a, L> {
         cycles.link(cycles.first(name)).contact.own.terminal
     }
 
-    // A region at rest becomes the root of a tree.
-    fn make_root(&mut self, name: u32) {
-        let terminal = self.terminal_in(name);
-        self.forest.make_root(name, terminal, self.clock.now());
-    }
-
     // The event of a region that is to become a root, if it still rests.
     pub(super) fn root_event(&mut self, name: u32) -> Result<(), NoMemory> {
         if !self.is_at_rest(name) {
             return Ok(());
         }
-        self.make_root(name);
+        let terminal = self.terminal_in(name);
+        self.forest.make_root(name, terminal, self.clock.now());
         self.wake_region(name, name)
     }
 }

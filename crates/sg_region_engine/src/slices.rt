@@ -179,24 +179,16 @@ impl<'a, L: Limit> Engine<'a, L> {
         self.go_on_until(until)
     }
 
-    // Stops those of these trees that are left; they wait.
+    // Stops those of these trees that are left: their regions are free, and they wait, their roots at rest.
     fn halt_batch(&mut self, names: &[u32], now: i64) -> Result<(), NoMemory> {
         self.clock.set(now, now);
         for name in names {
             if self.batches.is_left(*name) {
-                self.halt(*name)?;
+                self.free_members(*name)?;
+                self.inner.clear();
+                self.wait(*name)?;
             }
         }
         Ok(())
-    }
-
-    // Stops a tree: its regions are free, and its root is at rest.
-    fn halt(&mut self, tree: u32) -> Result<(), NoMemory> {
-        let mut inner = Vec::new(self.alloc);
-        swap(&mut inner, &mut self.inner);
-        inner.clear();
-        self.free_members(tree, &mut inner)?;
-        swap(&mut inner, &mut self.inner);
-        self.wait(tree)
     }
 }

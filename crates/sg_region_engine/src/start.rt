@@ -174,11 +174,9 @@ impl<'a, L: Limit> Engine<'a, L> {
 
     // The terminal at a node, if it is the root of a tree.
     fn root_at(&self, node: u32) -> Option<u32> {
-        let terminal = self.cover.held(node)?.terminal;
-        if self.is_root(terminal) {
-            Some(terminal)
-        } else {
-            None
+        match self.cover.held(node) {
+            Some(held) if self.is_root(held.terminal) => Some(held.terminal),
+            _ => None,
         }
     }
 

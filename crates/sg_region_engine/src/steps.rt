@@ -36,8 +36,8 @@ impl<'a, L: Limit> Engine<'a, L> {
         self.forest.set_above(contact.reversed());
         self.forest.add_member(inner, tree);
         self.forest.add_member(outer, tree);
-        self.set_role(inner, Role::Inner)?;
-        self.set_role(outer, Role::Outer)?;
+        self.set_inner(inner)?;
+        self.forest.set_role(outer, Role::Outer, self.clock.now());
         self.wake_region(outer, outer)
     }
 
@@ -48,12 +48,15 @@ impl<'a, L: Limit> Engine<'a, L> {
         let other = self.forest.tree(self.forest.top(contact.other.terminal));
         self.forest.flip_pairs(contact, &mut self.work);
         self.forest.flip_pairs(contact.reversed(), &mut self.work);
-        self.batches.end(own);
-        self.batches.end(other);
-        self.let_go(own)?;
-        self.let_go(other)?;
-        self.unpaired = self.unpaired.saturating_sub(2);
-        Ok(())
+        self.end_tree(own)?;
+        self.end_tree(other)
+    }
+
+    // A tree whose root has a mate goes.
+    pub(super) fn end_tree(&mut self, tree: Option<u32>) -> Result<(), NoMemory> {
+        self.unpaired = self.unpaired.saturating_sub(1);
+        self.batches.end(tree);
+        self.let_go(tree)
     }
 
     // Lets a tree go: what was kept off by its inner regions may come now.
@@ -61,19 +64,30 @@ impl<'a, L: Limit> Engine<'a, L> {
         let Some(tree) = tree else {
             return Ok(());
         };
-        let mut inner = Vec::new(self.alloc);
-        swap(&mut inner, &mut self.inner);
-        inner.clear();
-        self.free_members(tree, &mut inner)?;
-        for name in &inner {
-            self.wake_around_region(*name)?;
+        let start = self.inner.len();
+        self.free_members(tree)?;
+        self.wake_inner(start, None)
+    }
+
+    // Takes the regions that were inner off their list, from a place on, and enters their events where they are in an
+    // outer top, or the events of the arcs that lead to them.
+    pub(super) fn wake_inner(&mut self, start: usize, top: Option<u32>) -> Result<(), NoMemory> {
+        for place in start..self.inner.len() {
+            let Some(name) = self.inner.get(place).copied() else {
+                break;
+            };
+            match top {
+                Some(top) => self.wake_region(name, top)?,
+                None => self.wake_around_region(name)?,
+            }
         }
-        swap(&mut inner, &mut self.inner);
+        self.inner.truncate(start);
         Ok(())
     }
 
-    // Makes the members of a tree free, and lists those that were inner.
-    pub(super) fn free_members(&mut self, tree: u32, inner: &mut Vec<u32>) -> Result<(), NoMemory> {
+    // Makes the members of a tree free, and lists those that were inner. What is no top of this tree any more is left
+    // out, and the name of a region that is gone may be used again.
+    pub(super) fn free_members(&mut self, tree: u32) -> Result<(), NoMemory> {
         let mut member = self.forest.dissolve(tree);
         for _ in 0..self.forest.len() {
             let Some(name) = member else {
@@ -81,83 +95,54 @@ impl<'a, L: Limit> Engine<'a, L> {
             };
             self.work.add(1);
             member = self.forest.next_member(name);
-            self.free_member(name, tree, inner)?;
+            let role = self.forest.role(name);
+            if !self.cover.is_open(name) {
+                self.forest.free_name(name)?;
+            } else if role != Role::Part && self.forest.tree(name) == Some(tree) {
+                if role == Role::Inner {
+                    self.inner.push(name)?;
+                }
+                self.forest.quit_tree(name);
+                self.forest.set_role(name, Role::Free, self.clock.now());
+            }
         }
         Ok(())
     }
 
-    // Makes a member of a tree free, unless it is no top of this tree any more. The name of a region
-    // that is gone may be used again.
-    fn free_member(&mut self, name: u32, tree: u32, inner: &mut Vec<u32>) -> Result<(), NoMemory> {
-        if !self.cover.is_open(name) {
-            return self.forest.free_name(name);
-        }
-        let role = self.forest.role(name);
-        if role == Role::Part || self.forest.tree(name) != Some(tree) {
-            return Ok(());
-        }
-        if role == Role::Inner {
-            inner.push(name)?;
-        }
-        self.forest.quit_tree(name);
-        self.set_role(name, Role::Free)
-    }
-
-    // The cycle that a contact within a tree closes becomes an outer blossom.
+    // The cycle that a contact within a tree closes becomes an outer blossom: its regions that were inner are woken.
     pub(super) fn shrink(&mut self, contact: Contact) -> Result<(), NoMemory> {
         let own = self.forest.top(contact.own.terminal);
         let other = self.forest.top(contact.other.terminal);
         let Some(base) = self.forest.common_above(own, other, &mut self.work) else {
             return Ok(());
         };
-        let mut cycle = Vec::new(self.alloc);
-        swap(&mut cycle, &mut self.cycle);
-        self.forest.list_cycle(base, contact, &mut cycle)?;
-        self.shrink_cycle(&cycle, base)?;
-        swap(&mut cycle, &mut self.cycle);
-        Ok(())
-    }
-
-    // A cycle becomes an outer blossom: its regions that were inner are woken.
-    fn shrink_cycle(&mut self, cycle: &[Link], base: u32) -> Result<(), NoMemory> {
-        let mut inner = Vec::new(self.alloc);
-        swap(&mut inner, &mut self.inner);
-        inner.clear();
-        self.list_inner(cycle, &mut inner)?;
+        self.forest.list_cycle(base, contact, &mut self.cycle)?;
+        let start = self.inner.len();
+        self.list_inner()?;
         let now = self.clock.now();
-        let blossom = self.forest.shrink(cycle, base, now, &mut self.work)?;
+        let blossom = self.forest.shrink(&self.cycle, base, now, &mut self.work)?;
         self.cover.open(blossom)?;
-        self.append_rows(cycle, blossom);
+        self.append_rows(blossom);
         if self.is_first {
-            self.rest(blossom, &inner)?;
+            self.rest(blossom, start)
         } else {
-            self.wake_all(&inner, blossom)?;
+            self.wake_inner(start, Some(blossom))
         }
-        swap(&mut inner, &mut self.inner);
-        Ok(())
     }
 
-    // Enters the events of regions in an outer top.
-    fn wake_all(&mut self, regions: &[u32], top: u32) -> Result<(), NoMemory> {
-        for name in regions {
-            self.wake_region(*name, top)?;
-        }
-        Ok(())
-    }
-
-    // Lists the inner regions of a cycle.
-    fn list_inner(&self, cycle: &[Link], inner: &mut Vec<u32>) -> Result<(), NoMemory> {
-        for link in cycle {
+    // Lists the inner regions of the cycle.
+    fn list_inner(&mut self) -> Result<(), NoMemory> {
+        for link in &self.cycle {
             if self.forest.role(link.child) == Role::Inner {
-                inner.push(link.child)?;
+                self.inner.push(link.child)?;
             }
         }
         Ok(())
     }
 
-    // The rows of a cycle's regions become one.
-    pub(super) fn append_rows(&mut self, cycle: &[Link], blossom: u32) {
-        for link in cycle {
+    // The rows of the cycle's regions become one.
+    pub(super) fn append_rows(&mut self, blossom: u32) {
+        for link in &self.cycle {
             self.cover.append(blossom, link.child);
         }
     }
@@ -184,9 +169,9 @@ impl<'a, L: Limit> Engine<'a, L> {
         self.take_apart(name)?;
         let mut way = Vec::new(self.alloc);
         swap(&mut way, &mut self.cycle);
-        self.keep_even_side(pair, above, size, tree, &mut way)?;
+        let is_done = self.keep_even_side(pair, above, size, tree, &mut way);
         swap(&mut way, &mut self.cycle);
-        Ok(())
+        is_done
     }
 
     // The parts of a blossom are tops.
@@ -252,12 +237,14 @@ impl<'a, L: Limit> Engine<'a, L> {
         }
         if step % 2 == 1 {
             self.forest.set_above(link.contact.reversed());
-            return self.set_role(link.child, Role::Outer);
+            self.forest
+                .set_role(link.child, Role::Outer, self.clock.now());
+            return Ok(());
         }
         if step < length {
             self.forest.pair_by(link.contact);
         }
-        self.set_role(link.child, Role::Inner)
+        self.set_inner(link.child)
     }
 
     // Enters the events of the regions that were a blossom's.
@@ -274,7 +261,12 @@ impl<'a, L: Limit> Engine<'a, L> {
 
     // One side of a contact, at the start of an arc.
     pub(super) fn end_at(&self, node: u32, dart: u32) -> Option<End> {
-        let terminal = self.cover.held(node)?.terminal;
-        Some(End { terminal, dart })
+        match self.cover.held(node) {
+            Some(held) => Some(End {
+                terminal: held.terminal,
+                dart,
+            }),
+            None => None,
+        }
     }
 }

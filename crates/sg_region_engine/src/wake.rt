@@ -56,7 +56,14 @@ impl<'a, L: Limit> Engine<'a, L> {
     // Enters the event of the way back of an arc that leaves a node, if an outer region covers its end.
     pub(super) fn expect_back(&mut self, node: u32, arc: &Arc) -> Result<(), NoMemory> {
         match self.outer_reach(arc.to) {
-            Some(there) => self.expect(arc.to, there, &self.way_back(node, arc)),
+            Some(there) => {
+                let back = Arc {
+                    dart: reverse(arc.dart),
+                    to: node,
+                    length: arc.length,
+                };
+                self.expect(arc.to, there, &back)
+            }
             None => Ok(()),
         }
     }
@@ -85,18 +92,17 @@ impl<'a, L: Limit> Engine<'a, L> {
             is_own = is_own && sight.is_own;
             match self.hubs.number_of(arc.to) {
                 None => self.clock.expect_arc(arc.dart, sight.time)?,
-                Some(hub) => self.note(hub, arc.dart, sight.time)?,
+                Some(hub) if sight.time != NEVER => self.hubs.note(
+                    hub,
+                    Soon {
+                        time: sight.time,
+                        dart: arc.dart,
+                    },
+                )?,
+                Some(_) => {}
             }
         }
         Ok(is_own)
-    }
-
-    // Notes the event of an arc to a hub, if it comes at all.
-    fn note(&mut self, hub: u32, dart: u32, time: i64) -> Result<(), NoMemory> {
-        if time == NEVER {
-            return Ok(());
-        }
-        self.hubs.note(hub, Soon { time, dart })
     }
 
     // Enters the events of the arcs that are noted.
@@ -186,7 +192,9 @@ impl<'a, L: Limit> Engine<'a, L> {
     // over that reaches so far.
     #[inline(always)]
     fn coming(&self, arc: &Arc, reach: Option<Reach>) -> Option<Coming> {
-        let there = self.outer_reach(arc.to)?;
+        let Some(there) = self.outer_reach(arc.to) else {
+            return None;
+        };
         Some(Coming {
             top: there.top,
             node: arc.to,
@@ -195,7 +203,8 @@ impl<'a, L: Limit> Engine<'a, L> {
         })
     }
 
-    // Enters the events of the arcs that leave the nodes of a region in an outer top.
+    // Enters the events of the arcs that leave the nodes of a region in an outer top. A node from which they lead to
+    // nodes of this top alone is deep from now on.
     pub(super) fn wake_region(&mut self, name: u32, top: u32) -> Result<(), NoMemory> {
         let end = self.cover.end(name);
         let mut next = self.cover.first(name);
@@ -203,7 +212,11 @@ impl<'a, L: Limit> Engine<'a, L> {
             let Some(node) = self.next_shallow(next, end) else {
                 break;
             };
-            self.wake_within(node, top)?;
+            if let Some(here) = self.reach_at(node)
+                && self.wake_by(node, here)?
+            {
+                self.cover.set_deep(node, top);
+            }
             next = self.cover.behind(node, end);
         }
         self.enter_noted()
@@ -214,19 +227,6 @@ impl<'a, L: Limit> Engine<'a, L> {
         let found = self.cover.shallow(first, end);
         self.work.add(found.passed);
         found.node.number()
-    }
-
-    // Enters the events of the arcs that leave a node in an outer top. If they lead to nodes of this
-    // top alone, the node is deep from now on.
-    fn wake_within(&mut self, node: u32, top: u32) -> Result<(), NoMemory> {
-        let Some(held) = self.cover.held(node) else {
-            return Ok(());
-        };
-        let here = self.reach(&held);
-        if self.wake_by(node, here)? {
-            self.cover.set_deep(node, top);
-        }
-        Ok(())
     }
 
     // Enters the events of the arcs that lead to the nodes of a top.
@@ -243,13 +243,10 @@ impl<'a, L: Limit> Engine<'a, L> {
         Ok(())
     }
 
-    // Gives a top another role.
-    pub(super) fn set_role(&mut self, name: u32, role: Role) -> Result<(), NoMemory> {
-        self.forest.set_role(name, role, self.clock.now());
-        if role == Role::Inner {
-            return self.expect_floor(name);
-        }
-        Ok(())
+    // A top is inner from now on.
+    pub(super) fn set_inner(&mut self, name: u32) -> Result<(), NoMemory> {
+        self.forest.set_role(name, Role::Inner, self.clock.now());
+        self.expect_floor(name)
     }
 
     // Enters the event of an inner region: it comes down to the node that it took last, or to nothing.
