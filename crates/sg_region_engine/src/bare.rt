@@ -91,7 +91,8 @@ impl<'a, L: Limit> Engine<'a, L> {
         let mut waited = false;
         if let Some(last) = self.hubs.touched(hub) {
             let is_same = last.dart == arc.dart;
-            match self.still_touching(last.dart) {
+            let length = self.arcs.arc(last.dart).length;
+            match self.touch_over(self.arcs.start(last.dart), length) {
                 _ if is_same => waited = last.time == time,
                 Some(there) if there.top != here.top => {
                     return self.meet_last(node, arc, hub, own, last.dart);
@@ -108,11 +109,6 @@ impl<'a, L: Limit> Engine<'a, L> {
         self.hubs.touch(hub, Some(Soon { time, dart }));
         self.expect(node, here, arc)?;
         Ok(true)
-    }
-
-    // The outer region that still touches the end of an arc, by the arc's dart.
-    fn still_touching(&self, dart: u32) -> Option<Reach> {
-        self.touch_over(self.arcs.start(dart), self.arcs.arc(dart).length)
     }
 
     // An outer region meets the one that touched a hub last.
