@@ -28,7 +28,6 @@ impl Turning {
 }
 
 /// The dual in which each chain of bonds is one edge: another ground state turns all bonds of a chain, or none.
-#[derive(Drop)]
 pub struct Reduced {
     // The chains of the bonds that are not left out, by their places in a list; and for each bond its chain.
     chains: Chains,
@@ -43,6 +42,23 @@ pub struct Reduced {
     // Sets of chains that were found and not taken, and the place behind each.
     kept: Vec<u32>,
     kept_ends: Vec<u32>,
+}
+
+// An explicit `Drop`: otherwise every early return of an owner drops each list, and the prover pays for each.
+impl Drop for Reduced {
+    fn drop(self) {
+        let Reduced {
+            chains: _chains,
+            bonds: _bonds,
+            chain_of: _chain_of,
+            costs: _costs,
+            open: _open,
+            is_turned: _is_turned,
+            is_new: _is_new,
+            kept: _kept,
+            kept_ends: _kept_ends,
+        } = self;
+    }
 }
 
 impl Reduced {
