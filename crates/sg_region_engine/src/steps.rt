@@ -167,9 +167,16 @@ impl<'a, L: Limit> Engine<'a, L> {
         let tree = self.forest.tree(name);
         let size = self.forest.cycles().size(name);
         self.take_apart(name)?;
+        let first = self.forest.top(above.own.terminal);
+        let last = self.forest.top(pair.own.terminal);
+        let length = self
+            .forest
+            .list_even_way(first, last, size, &mut self.cycle)?;
+        self.forest.set_above(above);
+        self.forest.set_pair(pair);
         let mut way = Vec::new(self.alloc);
         swap(&mut way, &mut self.cycle);
-        let is_done = self.keep_even_side(pair, above, size, tree, &mut way);
+        let is_done = self.regroup(&way, length, tree);
         swap(&mut way, &mut self.cycle);
         is_done
     }
@@ -182,24 +189,6 @@ impl<'a, L: Limit> Engine<'a, L> {
             .expand(blossom, self.clock.now(), &mut self.work)
     }
 
-    // The even side of a blossom with these two contacts, which was taken apart, stays in its tree.
-    fn keep_even_side(
-        &mut self,
-        pair: Contact,
-        above: Contact,
-        size: u32,
-        tree: Option<u32>,
-        way: &mut Vec<Link>,
-    ) -> Result<(), NoMemory> {
-        let first = self.forest.top(above.own.terminal);
-        let last = self.forest.top(pair.own.terminal);
-        let length = self.forest.list_even_way(first, last, size, way)?;
-        self.forest.set_above(above);
-        self.forest.set_pair(pair);
-        self.regroup(way, length, tree)?;
-        self.wake_parts(way, length)
-    }
-
     // The rows of a blossom's parts are rows of their own again.
     pub(super) fn cut_rows(&mut self, blossom: u32) {
         let mut part = self.forest.cycles().first(blossom);
@@ -209,42 +198,31 @@ impl<'a, L: Limit> Engine<'a, L> {
         }
     }
 
-    // The regions of the first `length` links, and the one behind them, stay in the tree, inner and
-    // outer in turn; the others are paired.
+    // The regions of the first `length` links, and the one behind them, stay in the tree, inner at even steps and outer
+    // at odd ones; the others are paired. Then the events of all are entered.
     fn regroup(&mut self, way: &[Link], length: usize, tree: Option<u32>) -> Result<(), NoMemory> {
         for (step, link) in way.iter().enumerate() {
             if step > length {
                 if (step - length) % 2 == 1 {
                     self.forest.pair_by(link.contact);
                 }
-            } else {
-                self.take_part(link, step, length, tree)?;
+                continue;
             }
+            if let Some(tree) = tree {
+                self.forest.add_member(link.child, tree);
+            }
+            if step % 2 == 1 {
+                self.forest.set_above(link.contact.reversed());
+                self.forest
+                    .set_role(link.child, Role::Outer, self.clock.now());
+                continue;
+            }
+            if step < length {
+                self.forest.pair_by(link.contact);
+            }
+            self.set_inner(link.child)?;
         }
-        Ok(())
-    }
-
-    // The region of a link takes its part in a tree: inner at an even step, outer at an odd one.
-    fn take_part(
-        &mut self,
-        link: &Link,
-        step: usize,
-        length: usize,
-        tree: Option<u32>,
-    ) -> Result<(), NoMemory> {
-        if let Some(tree) = tree {
-            self.forest.add_member(link.child, tree);
-        }
-        if step % 2 == 1 {
-            self.forest.set_above(link.contact.reversed());
-            self.forest
-                .set_role(link.child, Role::Outer, self.clock.now());
-            return Ok(());
-        }
-        if step < length {
-            self.forest.pair_by(link.contact);
-        }
-        self.set_inner(link.child)
+        self.wake_parts(way, length)
     }
 
     // Enters the events of the regions that were a blossom's.
