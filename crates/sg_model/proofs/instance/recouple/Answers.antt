@@ -1,4 +1,5 @@
 use Rattle.std.proofs.Common.{◌<◌, ◌∙◌, length, pos, sym, arith}
+use Rattle.std.proofs.lemmas.Grind.{elements}
 use Rattle.std.proofs.lemmas.List.{ext_get_or}
 use Rattle.std.proofs.lemmas.List.FromFn.{get_or-map-range_with_len, length-map-range_with_len}
 use Rattle.sg_model.specs.declared.bond.Bond.{Bond}
@@ -17,3 +18,6 @@ returns c =
     (λ i l. let low : i < length old = omega arith in
     c.loop-k.invariant.done i (omega arith)
     ∙ sym (get_or-map-range_with_len (coupled_at old couplings) 0 (length old) i i no_bond low (omega arith)))
+
+pub loop-k-preserved : goal.loop-k-preserved
+loop-k-preserved c = grind (arith, elements)

@@ -1,4 +1,5 @@
 use Rattle.std.proofs.Common.{◌≤◌, length, map, sym, ◌∙◌, ap, subst, arith}
+use Rattle.std.proofs.lemmas.Grind.{common_steps}
 use Rattle.std.proofs.lemmas.List.{take_all}
 use Rattle.sg_model.specs.declared.bond.Bond.{Bond}
 use Rattle.sg_model.specs.Ising.{bond_count}
@@ -15,3 +16,9 @@ with_bonds-requires c =
     let done : bond_count inst ≤ c.loop-bond.bond-index = omega (arith, ap (length {A = Bond}) items) in
     subst (HasSameEnds inst) (sym (c.loop-bond.invariant ∙ ap (map opposite) (take_all c.loop-bond.bond-index inst.bonds done)))
     (negated_ends inst good.draft.joined)
+
+pub loop-bond-preserved : goal.loop-bond-preserved
+loop-bond-preserved c = grind (arith, common_steps)
+
+pub returns : goal.returns
+returns c = grind (arith, common_steps)
