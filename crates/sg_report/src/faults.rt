@@ -1,5 +1,6 @@
 // Refusals and verdicts.
-ghost use Rattle.std.specs.Prelude.{◌≡◌, IfOk};
+ghost use Rattle.std.specs.Prelude.{◌≡◌, ◌≤◌, take, IfOk};
+ghost use Rattle.sg_report.specs.Refusals.{refusal_numbers};
 ghost use Rattle.sg_report.specs.Text.{refusal_text as refusal_bytes, verdict_text as verdict_bytes};
 
 use super::NoMemory;
@@ -12,38 +13,41 @@ use std::alloc::Global;
 pub fn refusal_text(alloc: Global, refusal: &Refusal) -> Result<Vec<u8>, NoMemory>
     ensures { IfOk result (λ text. text.items ≡ refusal_bytes refusal.now) }
 {
-    let word = b"refused";
+    let (numbers, count) = numbers_of(refusal);
+    one_line(alloc, b"refused", &numbers[..count])
+}
+
+// The number of a refusal and those that it keeps, in front of an array, and how many they are.
+fn numbers_of(refusal: &Refusal) -> ([i128; 3], usize)
+    ensures few { result.1 ≤ 3 }
+    ensures numbers { take result.1 result.0 ≡ refusal_numbers refusal.now }
+{
     match refusal {
-        Refusal::TooLong { limit } => one_line(alloc, word, &[1, i128::from(*limit)]),
-        Refusal::Unended => one_line(alloc, word, &[2]),
-        Refusal::BadNumber { at, field } => {
-            one_line(alloc, word, &[3, i128::from(*at), i128::from(*field)])
-        }
-        Refusal::UnknownKind { at } => one_line(alloc, word, &[4, i128::from(*at)]),
-        Refusal::BadShape { at } => one_line(alloc, word, &[5, i128::from(*at)]),
-        Refusal::CouplingCount { found, wanted } => {
-            one_line(alloc, word, &[6, i128::from(*found), i128::from(*wanted)])
-        }
-        Refusal::TooManySpins { n } => one_line(alloc, word, &[7, *n]),
-        Refusal::TooManyBonds { m } => one_line(alloc, word, &[8, i128::from(*m)]),
-        Refusal::SelfBond { bond } => one_line(alloc, word, &[9, i128::from(*bond)]),
-        Refusal::BadRotation { spin, dart } => {
-            one_line(alloc, word, &[10, i128::from(*spin), i128::from(*dart)])
-        }
-        Refusal::BadSeam { bond } => one_line(alloc, word, &[11, i128::from(*bond)]),
-        Refusal::Trailing { at } => one_line(alloc, word, &[12, i128::from(*at)]),
-        Refusal::SumTooLarge { sum } => one_line(alloc, word, &[13, *sum]),
-        Refusal::NotPlanar { euler } => one_line(alloc, word, &[15, i128::from(*euler)]),
-        Refusal::NoSeam => one_line(alloc, word, &[16]),
-        Refusal::UnknownLaw => one_line(alloc, word, &[17]),
-        Refusal::BadJson => one_line(alloc, word, &[18]),
-        Refusal::BadMember { place, item } => {
-            one_line(alloc, word, &[19, i128::from(*place), i128::from(*item)])
-        }
-        Refusal::JsonTooLong { limit } => one_line(alloc, word, &[20, i128::from(*limit)]),
-        Refusal::OddTerminals { count } => one_line(alloc, word, &[21, i128::from(*count)]),
-        Refusal::BadTerminal { node } => one_line(alloc, word, &[22, i128::from(*node)]),
-        Refusal::NotJoined { node } => one_line(alloc, word, &[23, i128::from(*node)]),
+        Refusal::TooLong { limit } => ([1, i128::from(*limit), 0], 2),
+        Refusal::Unended => ([2, 0, 0], 1),
+        Refusal::BadNumber { at, field } => ([3, i128::from(*at), i128::from(*field)], 3),
+        Refusal::UnknownKind { at } => ([4, i128::from(*at), 0], 2),
+        Refusal::BadShape { at } => ([5, i128::from(*at), 0], 2),
+        Refusal::CouplingCount { found, wanted } => (
+            [6, i128::from(*found), i128::from(*wanted)],
+            3,
+        ),
+        Refusal::TooManySpins { n } => ([7, *n, 0], 2),
+        Refusal::TooManyBonds { m } => ([8, i128::from(*m), 0], 2),
+        Refusal::SelfBond { bond } => ([9, i128::from(*bond), 0], 2),
+        Refusal::BadRotation { spin, dart } => ([10, i128::from(*spin), i128::from(*dart)], 3),
+        Refusal::BadSeam { bond } => ([11, i128::from(*bond), 0], 2),
+        Refusal::Trailing { at } => ([12, i128::from(*at), 0], 2),
+        Refusal::SumTooLarge { sum } => ([13, *sum, 0], 2),
+        Refusal::NotPlanar { euler } => ([15, i128::from(*euler), 0], 2),
+        Refusal::NoSeam => ([16, 0, 0], 1),
+        Refusal::UnknownLaw => ([17, 0, 0], 1),
+        Refusal::BadJson => ([18, 0, 0], 1),
+        Refusal::BadMember { place, item } => ([19, i128::from(*place), i128::from(*item)], 3),
+        Refusal::JsonTooLong { limit } => ([20, i128::from(*limit), 0], 2),
+        Refusal::OddTerminals { count } => ([21, i128::from(*count), 0], 2),
+        Refusal::BadTerminal { node } => ([22, i128::from(*node), 0], 2),
+        Refusal::NotJoined { node } => ([23, i128::from(*node), 0], 2),
     }
 }
 

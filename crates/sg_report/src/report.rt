@@ -1,13 +1,14 @@
 // Reports, as JSON.
-ghost use Rattle.std.specs.Prelude.{◌≡◌, ◌++◌, false, codes, map, IfOk};
+ghost use Rattle.std.specs.Prelude.{◌≡◌, ◌++◌, false, codes, map, IfOk, OnOk, Some};
 ghost use Rattle.serde_json.specs.Written.{compact_text, has_float};
-ghost use Rattle.serde_json.specs.View.{view};
+ghost use Rattle.serde_json.specs.Data.{no_members, object};
+ghost use Rattle.serde_json.specs.View.{members_view, view};
 ghost use Rattle.sg_report.specs.Report.{report_text as report_bytes};
 ghost use Rattle.sg_report.specs.ReportValue.{loop_value as loop_data, name_value, whole_value};
 ghost use Rattle.sg_report.specs.ReportValue.{report_value as report_data, wall_value as wall_data};
 
 use super::NoMemory;
-use serde_json::{Value, json};
+use serde_json::{Map, Value, put};
 use sg_check::{Loop, Loops};
 use sg_model::Spins;
 use std::alloc::Global;
@@ -69,37 +70,55 @@ fn report_value(alloc: Global, members: &Members) -> Result<Value, NoMemory>
     ensures { IfOk result (λ v. view v ≡ report_data members.now.bonds members.now.sum members.now.energy
         members.now.spins.now members.now.loops.now members.now.costs.now members.now.clusters.now members.now.wall) }
 {
-    let bonds = members.bonds;
-    let sum = members.sum;
-    let energy = members.energy;
-    json!(in alloc; {
-        "bonds": bonds,
-        "clusters": Value::Array(name_values(alloc, members.clusters)?),
-        "costs": Value::Array(number_values(alloc, members.costs)?),
-        "energy": energy,
-        "loops": Value::Array(loop_values(alloc, members.loops)?),
-        "spins": Value::Array(spin_values(alloc, members.spins)?),
-        "sum": sum,
-        "wall": wall_value(alloc, members.wall)?
-    })
+    let mut map = Map::new(alloc);
+    put_members(&mut map, alloc, members)?;
+    Ok(Value::Object(map))
+}
+
+// Puts the members of a report into a map. It borrows the map, which each exit would drop otherwise, and so does not
+// use `json!`; the prover pays for each drop.
+fn put_members(
+    map: &mut Map<String, Value>,
+    alloc: Global,
+    members: &Members,
+) -> Result<(), NoMemory>
+    requires { members_view map.old.entries ≡ no_members }
+    ensures { OnOk result (object (members_view map.new.entries) ≡ report_data members.now.bonds members.now.sum members.now.energy
+        members.now.spins.now members.now.loops.now members.now.costs.now members.now.clusters.now members.now.wall) }
+{
+    put(map, alloc, "bonds", Value::from(members.bonds))?;
+    let clusters = name_values(alloc, members.clusters)?;
+    put(map, alloc, "clusters", Value::Array(clusters))?;
+    let costs = number_values(alloc, members.costs)?;
+    put(map, alloc, "costs", Value::Array(costs))?;
+    put(map, alloc, "energy", Value::from(members.energy))?;
+    let loops = loop_values(alloc, members.loops)?;
+    put(map, alloc, "loops", Value::Array(loops))?;
+    let spins = spin_values(alloc, members.spins)?;
+    put(map, alloc, "spins", Value::Array(spins))?;
+    put(map, alloc, "sum", Value::from(members.sum))?;
+    put(map, alloc, "wall", wall_value(alloc, members.wall)?)
 }
 
 fn wall_value(alloc: Global, wall: Option<[i64; 3]>) -> Result<Value, NoMemory>
     ensures { IfOk result (λ v. view v ≡ wall_data wall) }
 {
-    match wall {
-        Some(energies) => {
-            let periodic = energies[0];
-            let antiperiodic = energies[1];
-            let difference = energies[2];
-            json!(in alloc; {
-                "antiperiodic": antiperiodic,
-                "difference": difference,
-                "periodic": periodic
-            })
-        }
-        None => Ok(Value::Null),
-    }
+    let Some(energies) = wall else {
+        return Ok(Value::Null);
+    };
+    let mut map = Map::new(alloc);
+    put_wall(&mut map, alloc, energies)?;
+    Ok(Value::Object(map))
+}
+
+// Puts the energies of a domain wall into a map.
+fn put_wall(map: &mut Map<String, Value>, alloc: Global, energies: [i64; 3]) -> Result<(), NoMemory>
+    requires { members_view map.old.entries ≡ no_members }
+    ensures { OnOk result (object (members_view map.new.entries) ≡ wall_data (Some energies)) }
+{
+    put(map, alloc, "antiperiodic", Value::from(energies[1]))?;
+    put(map, alloc, "difference", Value::from(energies[2]))?;
+    put(map, alloc, "periodic", Value::from(energies[0]))
 }
 
 fn number_values(alloc: Global, numbers: &[i64]) -> Result<Vec<Value>, NoMemory>
@@ -135,9 +154,11 @@ fn name_values(alloc: Global, names: &[u32]) -> Result<Vec<Value>, NoMemory>
 fn loop_value(alloc: Global, entry: &Loop) -> Result<Value, NoMemory>
     ensures { IfOk result (λ v. view v ≡ loop_data entry.now) }
 {
+    let mut map = Map::new(alloc);
     let bonds = Value::Array(name_values(alloc, entry.bonds.as_slice())?);
-    let y = entry.y;
-    json!(in alloc; {"bonds": bonds, "y": y})
+    put(&mut map, alloc, "bonds", bonds)?;
+    put(&mut map, alloc, "y", Value::from(entry.y))?;
+    Ok(Value::Object(map))
 }
 
 fn loop_values(alloc: Global, loops: &[Loop]) -> Result<Vec<Value>, NoMemory>

@@ -17,9 +17,12 @@ pub enum Value {
 
 /// The members of an object, in their order; of one name the last counts.
 #[derive(Debug)]
-pub struct Map(pub Vec<(Text, Value)>);
+pub struct Map<K = Text, V = Value>(pub Vec<(K, V)>);
 
 impl Map {
+    pub fn new(_: Global) -> Map {
+        Map(Vec::new())
+    }
     pub fn keys(&self) -> impl Iterator<Item = &Text> {
         self.0.iter().map(|member| &member.0)
     }
@@ -125,16 +128,8 @@ impl From<i8> for Value {
     }
 }
 
-#[macro_export]
-macro_rules! json {
-    (in $alloc:expr; { $($name:literal : $value:expr),* $(,)? }) => {
-        Ok($crate::Value::Object($crate::Map(::std::vec![$(
-            ($crate::name_of($name), $crate::Value::from($value))
-        ),*])))
-    };
-}
-
-#[doc(hidden)]
-pub fn name_of(name: &str) -> Text {
-    Text(name.to_string())
+/// Puts a member behind those of a map.
+pub fn put(map: &mut Map, _: Global, name: &str, value: Value) -> Result<(), AllocError> {
+    map.0.push((Text(name.to_string()), value));
+    Ok(())
 }
