@@ -10,6 +10,8 @@ mod allowances;
 #[cfg(test)]
 mod distances;
 #[cfg(test)]
+mod facts;
+#[cfg(test)]
 mod graphs;
 #[cfg(test)]
 mod joins;

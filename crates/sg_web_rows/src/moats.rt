@@ -1,18 +1,22 @@
 // The cuts of the moats round nested sets of terminals.
-ghost use Rattle.std.specs.Prelude.{◌≡◌, ℕ, ◌+◌, ◌*◌, ◌<◌, ◌≤◌, length, slice_index, All, IfOk, IsTrue};
+ghost use Rattle.std.specs.Prelude.{◌≡◌, ℕ, ◌+◌, ◌*◌, ◌%◌, ◌<◌, ◌≤◌, length, slice_index, All, IfOk, IsTrue};
 ghost use Rattle.sg_arena.specs.Family.{leaf_count, total_of};
+ghost use Rattle.sg_graph.specs.Join.{AreTerminals};
 ghost use Rattle.sg_graph.specs.Table.{length_to};
+ghost use Rattle.sg_graph.specs.Walk.{IsConnectedWeb};
+ghost use Rattle.sg_graph.specs.Web.{total_weight};
+ghost use Rattle.sg_limits.specs.Limits.{forced_limit};
 ghost use Rattle.sg_moat.specs.Input.{AreTerminalTables, terminal_cost};
 ghost use Rattle.sg_pairing.specs.Matching.{NoSlackIsNegative};
 ghost use Rattle.sg_tjoin.specs.Doubled.{AreMetric, Reaches};
 
-use super::webs::{cut_sum, web};
+use super::facts::expect;
+use super::webs::{BUNDLE, EdgeRow, connected_web, cut_sum, terminals_of};
 use sg_arena::Arena;
 use sg_dist::distances;
-use sg_graph::{Cuts, Table, Terminals, Web, connected};
+use sg_graph::{Cut, Cuts, Table, Terminals, Web};
 use sg_moat::{NoMemory, levels};
 use sg_steps::Steps;
-use sg_sums::{all_below, is_rising};
 use std::alloc::Global;
 use std::marker::Brand;
 use std::process::Abort;
@@ -42,12 +46,15 @@ fn four_and_none<L: Ledger, R: Abort>(
     let mut family = Arena::open(alloc, 2)?;
     let room = family.room();
     let outer = family.top(0);
-    assert!(rt; outer < room);
-    assert!(rt; family.total(0) == 0);
-    assert!(rt; family.total(1) == 0);
+    expect(rt, "room of the first leaf", outer < room);
+    expect(rt, "total of leaf 0", family.total(0) == 0);
+    expect(rt, "total of leaf 1", family.total(1) == 0);
     family.raise(&[outer], &[], 4, steps);
-    assert!(rt; family.dual(family.leaf_node(0)) == 4);
-    assert!(rt; family.dual(family.leaf_node(1)) == 0);
+    let duals = (
+        family.dual(family.leaf_node(0)),
+        family.dual(family.leaf_node(1)),
+    );
+    expect(rt, "duals", duals == (4, 0));
     Ok(family)
 }
 
@@ -83,12 +90,33 @@ fn totals_fit(family: &Arena, terminals: &[u32], tables: &[Table]) -> bool
     true
 }
 
+// The cuts of a family, of which no slack is negative.
+fn cuts_of(
+    rt: &impl Abort,
+    alloc: Global,
+    web: &Web,
+    terminals: &Terminals,
+    family: &Arena,
+) -> Result<Cuts, NoMemory>
+    requires connected { IsConnectedWeb web.now }
+    requires terminals { AreTerminals web.now terminals.now }
+    requires even { length terminals.now % 2 ≡ 0 }
+    requires light { total_weight web.now ≤ forced_limit }
+    requires leaves { leaf_count family.now ≡ length terminals.now }
+{
+    let _edges = web.edges();
+    let nodes = terminals.as_slice();
+    let tables = tables_of(alloc, web, nodes)?;
+    expect(rt, "totals", totals_fit(family, nodes, &tables));
+    levels(alloc, web, terminals, &tables, family)
+}
+
 // The cuts of a family that has the dual 4 on the first of two terminals alone.
 fn cuts_round_the_first<L: Ledger, R: Abort>(
     rt: &R,
     alloc: Global,
     count: u32,
-    list: &[(u32, u32, i64)],
+    list: &[EdgeRow],
     ends: [u32; 2],
     blank: Blank,
 ) -> Result<Cuts, NoMemory>
@@ -97,16 +125,10 @@ fn cuts_round_the_first<L: Ledger, R: Abort>(
     requires some { 0 < L.parts }
 {
     let mut steps = Steps::<L>::new(blank);
-    let small = web(rt, alloc, count, list)?;
-    assert!(rt; connected(alloc, &small)?);
-    assert!(rt; is_rising(&ends));
-    assert!(rt; all_below(&ends, small.nodes() as usize));
-    let terminals = Terminals::from_vec(Vec::from_slice(alloc, &ends)?);
-    let nodes = terminals.as_slice();
-    let tables = tables_of(alloc, &small, nodes)?;
+    let small = connected_web(rt, alloc, count, list)?;
+    let terminals = terminals_of(rt, alloc, &small, &ends)?;
     let family = four_and_none(rt, alloc, &mut steps)?;
-    assert!(rt; totals_fit(&family, nodes, &tables));
-    levels(alloc, &small, &terminals, &tables, &family)
+    cuts_of(rt, alloc, &small, &terminals, &family)
 }
 
 // Each cut has all the edges between the two nodes, and together they weigh as much as the dual.
@@ -115,12 +137,12 @@ fn cuts_all_edges<L: Ledger, R: Abort>(rt: &R, alloc: Global, blank: Blank) -> R
     requires parts { blank.parts ≡ L.parts }
     requires some { 0 < L.parts }
 {
-    let edges = [(0, 1, 3), (1, 0, 4), (1, 0, 2), (0, 1, 5)];
-    let cuts = cuts_round_the_first::<L, R>(rt, alloc, 2, &edges, [0, 1], blank)?;
+    let cuts = cuts_round_the_first::<L, R>(rt, alloc, 2, &BUNDLE, [0, 1], blank)?;
     for cut in cuts.as_slice() {
-        assert_eq!(rt; cut.edges.as_slice(), [0, 1, 2, 3].as_slice());
+        let edges = cut.edges.as_slice();
+        expect(rt, "all edges", edges == [0, 1, 2, 3].as_slice());
     }
-    assert_eq!(rt; cut_sum(&cuts), 4);
+    expect(rt, "sum of the cuts", cut_sum(&cuts) == 4);
     Ok(())
 }
 
@@ -130,19 +152,24 @@ fn a_dual_is_spread_over_cuts_between_the_terminals(rt: HostRuntime) -> Result<(
     Ok(())
 }
 
+// A cut has the weight 2 and these edges.
+fn expect_two<R: Abort>(rt: &R, cut: &Cut, edges: &[u32]) {
+    expect(rt, "weight of a cut", cut.y == 2);
+    expect(rt, "edges of a cut", cut.edges.as_slice() == edges);
+}
+
+static TRIANGLE: [EdgeRow; 3] = [(0, 1, 1), (1, 2, 2), (0, 2, 3)];
+
 // A set at node 0 with the dual 4: node 1 is at depth 2, and node 2 at 4 or more.
 fn cuts_by_depth<L: Ledger, R: Abort>(rt: &R, alloc: Global, blank: Blank) -> Result<(), NoMemory>
     requires name { blank.name ≡ L.name }
     requires parts { blank.parts ≡ L.parts }
     requires some { 0 < L.parts }
 {
-    let edges = [(0, 1, 1), (1, 2, 2), (0, 2, 3)];
-    let cuts = cuts_round_the_first::<L, R>(rt, alloc, 3, &edges, [0, 2], blank)?;
-    assert_eq!(rt; cuts.len(), 2);
-    assert_eq!(rt; cuts.at(0).y, 2);
-    assert_eq!(rt; cuts.at(0).edges.as_slice(), [0, 2].as_slice());
-    assert_eq!(rt; cuts.at(1).y, 2);
-    assert_eq!(rt; cuts.at(1).edges.as_slice(), [1, 2].as_slice());
+    let cuts = cuts_round_the_first::<L, R>(rt, alloc, 3, &TRIANGLE, [0, 2], blank)?;
+    expect(rt, "number of cuts", cuts.len() == 2);
+    expect_two(rt, cuts.at(0), &[0, 2]);
+    expect_two(rt, cuts.at(1), &[1, 2]);
     Ok(())
 }
 

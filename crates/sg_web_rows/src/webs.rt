@@ -1,39 +1,106 @@
-// Weighted graphs of a few edges, and their cuts.
-ghost use Rattle.std.specs.Prelude.{◌≡◌, ◌≤◌, IfOk};
+// Weighted graphs of a few edges, terminals among their nodes, and their cuts.
+ghost use Rattle.std.specs.Prelude.{◌≡◌, ◌<◌, ◌≤◌, ◌%◌, length, IfOk};
+ghost use Rattle.sg_graph.specs.Join.{AreTerminals};
+ghost use Rattle.sg_graph.specs.Walk.{IsConnectedWeb};
 ghost use Rattle.sg_graph.specs.Web.{IsEdge, total_weight, weight_at};
 
-use sg_graph::{Cuts, Edge, Edges, NoMemory, Web};
+use super::facts::expect;
+use sg_graph::{Cuts, Edge, Edges, NoMemory, Table, Terminals, Web, connected};
+use sg_sums::{all_below, is_rising};
 use std::alloc::Global;
 use std::process::Abort;
+
+/// An edge as its two ends and its weight.
+pub type EdgeRow = (u32, u32, i64);
+
+/// Four edges between two nodes.
+pub static BUNDLE: [EdgeRow; 4] = [(0, 1, 3), (1, 0, 4), (1, 0, 2), (0, 1, 5)];
+
+/// The number of nodes, the edges, and the terminals.
+pub type Graph<'a> = (u32, &'a [EdgeRow], &'a [u32]);
 
 // An edge of small weight.
 fn edge(rt: &impl Abort, nodes: u32, a: u32, b: u32, w: i64) -> Edge
     ensures joined { IsEdge nodes result }
     ensures small { weight_at result ≤ 100 }
 {
-    assert!(rt; a < nodes);
-    assert!(rt; b < nodes);
-    assert!(rt; w >= 0);
-    assert!(rt; w <= 100);
+    expect(rt, "first end", a < nodes);
+    expect(rt, "second end", b < nodes);
+    expect(rt, "no negative weight", w >= 0);
+    expect(rt, "small weight", w <= 100);
     Edge { a, b, w }
 }
 
 /// The weighted graph of these edges.
-pub fn web(
-    rt: &impl Abort,
-    alloc: Global,
-    nodes: u32,
-    list: &[(u32, u32, i64)],
-) -> Result<Web, NoMemory>
+pub fn web(rt: &impl Abort, alloc: Global, nodes: u32, list: &[EdgeRow]) -> Result<Web, NoMemory>
     ensures nodes { IfOk result (λ made. made.nodes ≡ nodes) }
     ensures light { IfOk result (λ made. total_weight made ≤ 10000) }
 {
-    assert!(rt; nodes >= 1 && nodes <= 100 && list.len() <= 100);
+    expect(rt, "a node", nodes >= 1);
+    expect(rt, "few nodes", nodes <= 100);
+    expect(rt, "few edges", list.len() <= 100);
     let mut edges = Edges::new(alloc);
     for (a, b, w) in list {
         edges.push(edge(rt, nodes, *a, *b, *w))?;
     }
     Ok(Web::new(nodes, edges))
+}
+
+/// The same of a graph that has to be connected.
+pub fn connected_web(
+    rt: &impl Abort,
+    alloc: Global,
+    nodes: u32,
+    list: &[EdgeRow],
+) -> Result<Web, NoMemory>
+    ensures nodes { IfOk result (λ made. made.nodes ≡ nodes) }
+    ensures light { IfOk result (λ made. total_weight made ≤ 10000) }
+    ensures connected { IfOk result IsConnectedWeb }
+{
+    let made = web(rt, alloc, nodes, list)?;
+    let is_connected = connected(alloc, &made)?;
+    expect(rt, "connected", is_connected);
+    Ok(made)
+}
+
+/// These nodes of a graph as its terminals: an even number that rises.
+pub fn terminals_of(
+    rt: &impl Abort,
+    alloc: Global,
+    web: &Web,
+    ends: &[u32],
+) -> Result<Terminals, NoMemory>
+    ensures terminals { IfOk result (AreTerminals web.now) }
+    ensures even { IfOk result (λ made. length made % 2 ≡ 0) }
+    ensures same { IfOk result (λ made. made ≡ ends.now) }
+{
+    expect(rt, "terminals that rise", is_rising(ends));
+    expect(
+        rt,
+        "terminals among the nodes",
+        all_below(ends, web.nodes() as usize),
+    );
+    expect(rt, "an even number of terminals", ends.len() % 2 == 0);
+    Ok(Terminals::from_vec(Vec::from_slice(alloc, ends)?))
+}
+
+/// A node of a table has this distance, if it is reached, and this edge to its parent.
+pub fn expect_node(
+    rt: &impl Abort,
+    table: &Table,
+    node: u32,
+    distance: Option<i64>,
+    parent: Option<u32>,
+)
+    requires { node < length table.now.to }
+{
+    let found = if table.reached(node) {
+        Some(table.distance(node))
+    } else {
+        None
+    };
+    expect(rt, "distance", found == distance);
+    expect(rt, "parent", table.parent(node) == parent);
 }
 
 /// The sum of the weights of the cuts.
