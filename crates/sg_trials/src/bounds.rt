@@ -1,10 +1,12 @@
 // Bounds of the costs of all bonds, and the costs of chosen ones, beside costs that were found by trying all
 // assignments in another language.
 
-use super::least::instance;
+use super::facts::expect;
+use super::least::planar_of;
 use sg_bonds::{Bound, bond_bounds, costs_of};
 use sg_limits::SUM_LIMIT;
 use sg_planar::Planar;
+use sg_tjoin::Unproved;
 use std::alloc::{AllocError, Global};
 use std::process::Abort;
 use std::test::Fail;
@@ -13,7 +15,7 @@ const UNKNOWN: Bound = Bound { low: -1, high: -1 };
 
 // A cylinder of twelve spins, a triangular strip of ten spins with its spins renamed and its embedding mirrored, and
 // two loops of four and of three spins; with the cost of each bond.
-const ROWS: [(&str, &[i64]); 3] = [
+static ROWS: [(&str, &[i64]); 3] = [
     (
         "cylinder,3,4\n4,-1,0,5,3,-5,2,-2,5,-5,-3,-4,0,2,-2,1,3,-4,4,-2\nend\n",
         &[6, 0, 0, 8, 4, 4, 4, 4, 4, 0, 2, 0, 0, 0, 2, 0, 0, 0, 4, 2],
@@ -44,14 +46,16 @@ fn assert_enclosed(
     planar: &Planar,
     costs: &[i64],
     rounds: u32,
-) -> Result<(), Fail> {
+) -> Result<(), Unproved> {
     let mut bounds = unknown(alloc, planar)?;
-    assert!(rt; planar.instance().weight() <= SUM_LIMIT);
-    assert!(rt; bounds.len() == planar.instance().bonds().len());
+    let inst = planar.instance();
+    expect(rt, "sum of the couplings", inst.weight() <= SUM_LIMIT);
+    expect(rt, "number of bounds", bounds.len() == inst.bonds().len());
     bond_bounds(alloc, planar, &mut bounds, rounds, u64::MAX)?;
     for (bound, cost) in bounds.iter().zip(costs) {
-        assert!(rt; bound.low <= *cost && *cost <= bound.high);
-        assert!(rt; (*cost > 0) == (bound.low >= 2));
+        let is_enclosed = bound.low <= *cost && *cost <= bound.high;
+        expect(rt, "bounds that enclose the cost", is_enclosed);
+        expect(rt, "a rigid bond", (*cost > 0) == (bound.low >= 2));
     }
     Ok(())
 }
@@ -63,14 +67,16 @@ fn assert_cost(
     planar: &Planar,
     bond: usize,
     cost: i64,
-) -> Result<(), Fail> {
+) -> Result<(), Unproved> {
     let mut bounds = unknown(alloc, planar)?;
-    assert!(rt; planar.instance().weight() <= SUM_LIMIT);
-    assert!(rt; bounds.len() == planar.instance().bonds().len());
-    assert!(rt; bond < bounds.len() && bounds.len() <= 1 << 24);
+    let inst = planar.instance();
+    expect(rt, "sum of the couplings", inst.weight() <= SUM_LIMIT);
+    expect(rt, "number of bounds", bounds.len() == inst.bonds().len());
+    expect(rt, "a bond", bond < bounds.len());
+    expect(rt, "few bonds", bounds.len() <= 1 << 24);
     costs_of(alloc, planar, &[bond as u32], &mut bounds, u64::MAX)?;
     let bound = bounds[bond];
-    assert!(rt; bound.low == cost && bound.high == cost);
+    expect(rt, "cost", bound.low == cost && bound.high == cost);
     Ok(())
 }
 
@@ -80,7 +86,7 @@ fn assert_costs(
     alloc: Global,
     planar: &Planar,
     costs: &[i64],
-) -> Result<(), Fail> {
+) -> Result<(), Unproved> {
     for rounds in [0, 1, 24] {
         assert_enclosed(rt, alloc, planar, costs, rounds)?;
     }
@@ -92,12 +98,10 @@ fn assert_costs(
 
 #[test]
 fn bounds_enclose_costs_that_were_found_elsewhere(rt: HostRuntime) -> Result<(), Fail> {
-    for (text, costs) in ROWS {
-        let inst = instance(&rt, rt.alloc(), text)?;
-        assert_eq!(rt; inst.bonds().len(), costs.len());
-        let Ok(planar) = Planar::new(rt.alloc(), inst) else {
-            return Err(Fail::new("the instance is planar"));
-        };
+    for (text, costs) in &ROWS {
+        let planar = planar_of(&rt, rt.alloc(), text)?;
+        let bonds = planar.instance().bonds().len();
+        expect(&rt, "number of costs", bonds == costs.len());
         assert_costs(&rt, rt.alloc(), &planar, costs)?;
     }
     Ok(())

@@ -2,6 +2,7 @@
 
 ghost use Rattle.std.specs.Prelude.{◌<◌};
 
+use super::facts::expect;
 use super::proposals::assert_good;
 use rand_core::utils::NextWord;
 use rand_pcg::Pcg32;
@@ -15,7 +16,7 @@ use std::process::Abort;
 use std::test::Fail;
 
 // Instances that are worked by hand, or that are the least of their kind.
-pub(crate) const WORKED: [&str; 14] = [
+pub(crate) static WORKED: [&str; 14] = [
     "square,1,1\nend\n",
     "square,2,2\n3,4\n2,-5\nend\n",
     "triangular,2,2\n-1,-1,-1,-1,-1\nend\n",
@@ -39,53 +40,90 @@ pub(crate) fn instance(rt: &impl Abort, alloc: Global, text: &str) -> Result<Ins
     Ok(inst)
 }
 
+// The same with its embedding.
+pub(crate) fn planar_of(rt: &impl Abort, alloc: Global, text: &str) -> Result<Planar, Fail> {
+    let inst = instance(rt, alloc, text)?;
+    match Planar::new(alloc, inst) {
+        Ok(planar) => Ok(planar),
+        Err(_) => Err(Fail::new("the instance is planar")),
+    }
+}
+
 // What is proposed for the dual of an instance has to be good.
-fn assert_part(rt: &impl Abort, alloc: Global, planar: &Planar, text: &str) -> Result<(), Fail> {
+fn assert_part(
+    rt: &impl Abort,
+    alloc: Global,
+    planar: &Planar,
+    text: &str,
+) -> Result<(), AllocError> {
     let faces = planar.faces();
-    assert!(rt; faces.count() <= 1 << 24);
+    expect(rt, "number of faces", faces.count() <= 1 << 24);
     let (web, terminals) = dual(alloc, planar.instance(), faces)?;
     assert_good(rt, alloc, &web, &terminals, text)
 }
 
 // The same for each part of an instance.
-fn assert_parts(rt: &impl Abort, alloc: Global, parts: &[Part], text: &str) -> Result<(), Fail> {
+fn assert_parts(
+    rt: &impl Abort,
+    alloc: Global,
+    parts: &[Part],
+    text: &str,
+) -> Result<(), AllocError> {
     for part in parts {
         assert_part(rt, alloc, &part.planar, text)?;
     }
     Ok(())
 }
 
+// The same for all parts of an instance.
+fn assert_planar(
+    rt: &impl Abort,
+    alloc: Global,
+    planar: &Planar,
+    text: &str,
+) -> Result<(), AllocError> {
+    let list = parts(alloc, planar)?;
+    assert_parts(rt, alloc, list.as_slice(), text)
+}
+
+// The least energy of an instance.
+fn solved(alloc: Global, planar: &Planar) -> Result<i64, AllocError> {
+    Ok(solve(alloc, planar)?.energy)
+}
+
 // Solves the instance of a text, and looks at what is proposed for each part.
-fn assert_solved(rt: &impl Abort, alloc: Global, text: &str) -> Result<i128, Fail> {
+fn assert_solved(rt: &impl Abort, alloc: Global, text: &str) -> Result<i64, Fail> {
+    let planar = planar_of(rt, alloc, text)?;
+    assert_planar(rt, alloc, &planar, text)?;
+    Ok(solved(alloc, &planar)?)
+}
+
+// The least energy of the instance of a text, over all assignments.
+fn plain(rt: &impl Abort, alloc: Global, text: &str) -> Result<i128, Fail> {
     let inst = instance(rt, alloc, text)?;
-    let Ok(planar) = Planar::new(alloc, inst) else {
-        return Err(Fail::new("the instance is planar"));
-    };
-    let list = parts(alloc, &planar)?;
-    assert_parts(rt, alloc, list.as_slice(), text)?;
-    Ok(i128::from(solve(alloc, &planar)?.energy))
+    expect(rt, "number of spins", inst.n() <= 16);
+    let (_, least) = least_plain(alloc, &inst)?;
+    Ok(least)
 }
 
 // Tries all assignments of the instance of a text beside that.
 fn assert_least(rt: &impl Abort, alloc: Global, text: &str) -> Result<(), Fail> {
     let energy = assert_solved(rt, alloc, text)?;
-    let inst = instance(rt, alloc, text)?;
-    assert!(rt; inst.n() <= 16);
-    let (_, least) = least_plain(alloc, &inst)?;
-    assert_eq!(rt; energy, least, "{text}");
+    let least = plain(rt, alloc, text)?;
+    expect(rt, text, i128::from(energy) == least);
     Ok(())
 }
 
 #[test]
 fn worked_instances(rt: HostRuntime) -> Result<(), Fail> {
-    for text in WORKED {
+    for text in &WORKED {
         assert_least(&rt, rt.alloc(), text)?;
     }
     Ok(())
 }
 
 // Small lattices, each with the number of its bonds.
-pub(crate) const SHAPES: [(&str, u32); 10] = [
+pub(crate) static SHAPES: [(&str, u32); 10] = [
     ("square,1,12", 11),
     ("square,2,6", 16),
     ("square,3,4", 17),
@@ -131,9 +169,9 @@ pub(crate) fn drawn(
 #[test]
 fn drawn_lattices(rt: HostRuntime) -> Result<(), Fail> {
     let mut draws = Pcg32::new(42, 54);
-    for (shape, bonds) in SHAPES {
+    for (shape, bonds) in &SHAPES {
         for trial in 0..20 {
-            let text = drawn(rt.alloc(), shape, bonds, trial % 5, &mut draws)?;
+            let text = drawn(rt.alloc(), shape, *bonds, trial % 5, &mut draws)?;
             assert_least(&rt, rt.alloc(), text.as_str())?;
         }
     }
@@ -146,7 +184,8 @@ fn large_lattices(rt: HostRuntime) -> Result<(), Fail> {
     for (shape, bonds) in [("square,32,32", 1984), ("triangular,24,24", 1633)] {
         for kind in [0, 4] {
             let text = drawn(rt.alloc(), shape, bonds, kind, &mut draws)?;
-            assert!(rt; assert_solved(&rt, rt.alloc(), text.as_str())? < 0);
+            let energy = assert_solved(&rt, rt.alloc(), text.as_str())?;
+            expect(&rt, shape, energy < 0);
         }
     }
     Ok(())
@@ -158,7 +197,42 @@ fn long_cylinders(rt: HostRuntime) -> Result<(), Fail> {
     let mut draws = Pcg32::new(8, 54);
     for kind in [0, 3] {
         let text = drawn(rt.alloc(), "cylinder,3,141", 705, kind, &mut draws)?;
-        assert!(rt; assert_solved(&rt, rt.alloc(), text.as_str())? < 0);
+        let energy = assert_solved(&rt, rt.alloc(), text.as_str())?;
+        expect(&rt, "energy", energy < 0);
+    }
+    Ok(())
+}
+
+// Adds the bonds of one of four triangles, with drawn couplings.
+fn push_triangle(
+    alloc: Global,
+    text: &mut String,
+    ring: u32,
+    kind: u32,
+    draws: &mut Pcg32,
+) -> Result<(), AllocError>
+    requires { ring < 4 }
+{
+    let spins = [ring, ring + 4, ring + 8, ring];
+    for side in 0..3 {
+        let j = coupling(kind, draws.next_word());
+        let (u, v) = (spins[side], spins[side + 1]);
+        text.push_str(format!(in alloc; "bond,{u},{v},{j}\n")?.as_str())?;
+    }
+    Ok(())
+}
+
+// Adds the rotations of its spins.
+fn push_corners(alloc: Global, text: &mut String, ring: u32) -> Result<(), AllocError>
+    requires { ring < 4 }
+{
+    let dart = 6 * ring;
+    for (spin, first, second) in [
+        (ring, dart, dart + 5),
+        (ring + 4, dart + 1, dart + 2),
+        (ring + 8, dart + 3, dart + 4),
+    ] {
+        text.push_str(format!(in alloc; "rot,{spin},{first},{second}\n")?.as_str())?;
     }
     Ok(())
 }
@@ -171,22 +245,10 @@ pub(crate) fn drawn_triangles(
 ) -> Result<String, AllocError> {
     let mut text = String::from_str(alloc, "general,12\n")?;
     for ring in 0..4u32 {
-        let spins = [ring, ring + 4, ring + 8, ring];
-        for side in 0..3 {
-            let j = coupling(kind, draws.next_word());
-            let (u, v) = (spins[side], spins[side + 1]);
-            text.push_str(format!(in alloc; "bond,{u},{v},{j}\n")?.as_str())?;
-        }
+        push_triangle(alloc, &mut text, ring, kind, draws)?;
     }
     for ring in 0..4u32 {
-        let dart = 6 * ring;
-        for (spin, first, second) in [
-            (ring, dart, dart + 5),
-            (ring + 4, dart + 1, dart + 2),
-            (ring + 8, dart + 3, dart + 4),
-        ] {
-            text.push_str(format!(in alloc; "rot,{spin},{first},{second}\n")?.as_str())?;
-        }
+        push_corners(alloc, &mut text, ring)?;
     }
     text.push_str("end\n")?;
     Ok(text)
@@ -271,7 +333,7 @@ fn drawn_squares(alloc: Global, draws: &mut Pcg32) -> Result<String, AllocError>
 
 // Whether a nest over the faces of all components proves the ground state.
 fn has_whole_nest(alloc: Global, planar: &Planar) -> Result<bool, AllocError> {
-    let energy = solve(alloc, planar)?.energy;
+    let energy = solved(alloc, planar)?;
     match nested_state(alloc, planar, u64::MAX) {
         Ok(state) => Ok(state.energy == energy && state.nest.is_some()),
         Err(_) => Ok(false),
@@ -282,10 +344,8 @@ fn has_whole_nest(alloc: Global, planar: &Planar) -> Result<bool, AllocError> {
 fn large_components(rt: HostRuntime) -> Result<(), Fail> {
     let mut draws = Pcg32::new(44, 54);
     let text = drawn_squares(rt.alloc(), &mut draws)?;
-    let inst = instance(&rt, rt.alloc(), text.as_str())?;
-    let Ok(planar) = Planar::new(rt.alloc(), inst) else {
-        return Err(Fail::new("the instance is planar"));
-    };
-    assert!(rt; has_whole_nest(rt.alloc(), &planar)?);
+    let planar = planar_of(&rt, rt.alloc(), text.as_str())?;
+    let is_proved = has_whole_nest(rt.alloc(), &planar)?;
+    expect(&rt, "a nest", is_proved);
     Ok(())
 }

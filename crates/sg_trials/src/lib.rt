@@ -10,6 +10,8 @@
 #[cfg(test)]
 mod bounds;
 #[cfg(test)]
+mod facts;
+#[cfg(test)]
 mod least;
 #[cfg(test)]
 mod proposals;

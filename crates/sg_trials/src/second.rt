@@ -3,7 +3,8 @@
 ghost use Rattle.sg_graph_text.specs.Network.{IsNetwork};
 ghost use Rattle.sg_ground.specs.Nested.{FitsWeb};
 
-use super::least::{drawn_triangles, instance};
+use super::facts::expect;
+use super::least::{drawn_triangles, planar_of};
 use super::webs::{drawn_grid, network_of};
 use rand_pcg::Pcg32;
 use sg_graph::{Terminals, Web};
@@ -82,20 +83,26 @@ impl Proposer<NestProposal> for Silent {
     }
 }
 
-// The second proposal is taken, with cuts and with a nest; and where there is none, there is no
-// T-join.
-fn assert_second(rt: &impl Abort, alloc: Global, network: &Network) -> Result<(), Fail>
+// Whether there are T-joins of a proposer that is mute or not: with cuts, and with a nest.
+fn are_joined(alloc: Global, network: &Network, is_mute: bool) -> Result<(bool, bool), AllocError>
     requires { IsNetwork network.now.web network.now.terminals }
 {
     let (web, terminals) = (&network.web, &network.terminals);
-    let mut second = withheld(false);
-    let cuts = judged_join(alloc, web, terminals, &mut second)?;
-    let nest = nested_join(alloc, web, terminals, &mut second)?;
-    assert!(rt; cuts.is_some() && nest.is_some());
-    let mut mute = withheld(true);
-    let no_cuts = judged_join(alloc, web, terminals, &mut mute)?;
-    let no_nest = nested_join(alloc, web, terminals, &mut mute)?;
-    assert!(rt; no_cuts.is_none() && no_nest.is_none());
+    let mut proposer = withheld(is_mute);
+    let has_cuts = judged_join(alloc, web, terminals, &mut proposer)?.is_some();
+    let has_nest = nested_join(alloc, web, terminals, &mut proposer)?.is_some();
+    Ok((has_cuts, has_nest))
+}
+
+// The second proposal is taken, with cuts and with a nest; and where there is none, there is no
+// T-join.
+fn assert_second(rt: &impl Abort, alloc: Global, network: &Network) -> Result<(), AllocError>
+    requires { IsNetwork network.now.web network.now.terminals }
+{
+    let with_second = are_joined(alloc, network, false)?;
+    expect(rt, "the second is taken", with_second == (true, true));
+    let without = are_joined(alloc, network, true)?;
+    expect(rt, "there is none", without == (false, false));
     Ok(())
 }
 
@@ -104,7 +111,7 @@ fn second_proposals(rt: HostRuntime) -> Result<(), Fail> {
     let mut draws = Pcg32::new(49, 54);
     let text = drawn_grid(rt.alloc(), 6, 6, 3, &mut draws)?;
     let network = network_of(&rt, rt.alloc(), text.as_str())?;
-    assert_second(&rt, rt.alloc(), &network)
+    Ok(assert_second(&rt, rt.alloc(), &network)?)
 }
 
 // Whether a nest over all components is proposed that proves the state.
@@ -120,13 +127,14 @@ fn has_nest(
 }
 
 // The second nest over all components is taken; and where there is none, there is no nest.
-fn assert_second_nest(rt: &impl Abort, alloc: Global, planar: &Planar) -> Result<(), Fail> {
-    let state = ground_state(alloc, planar)?;
+fn assert_second_nest(rt: &impl Abort, alloc: Global, planar: &Planar) -> Result<(), AllocError> {
     let inst = planar.instance();
-    assert!(rt; inst.n() as usize + inst.bonds().len() <= 1 << 24);
+    let is_small = inst.n() as usize + inst.bonds().len() <= 1 << 24;
+    expect(rt, "size", is_small);
+    let state = ground_state(alloc, planar)?;
     let with_second = has_nest(alloc, planar, &state, withheld(false))?;
     let without = has_nest(alloc, planar, &state, withheld(true))?;
-    assert!(rt; with_second && !without);
+    expect(rt, "the second is taken", with_second && !without);
     Ok(())
 }
 
@@ -134,9 +142,6 @@ fn assert_second_nest(rt: &impl Abort, alloc: Global, planar: &Planar) -> Result
 fn second_nests(rt: HostRuntime) -> Result<(), Fail> {
     let mut draws = Pcg32::new(50, 54);
     let text = drawn_triangles(rt.alloc(), 0, &mut draws)?;
-    let inst = instance(&rt, rt.alloc(), text.as_str())?;
-    match Planar::new(rt.alloc(), inst) {
-        Ok(planar) => assert_second_nest(&rt, rt.alloc(), &planar),
-        Err(_) => Err(Fail::new("the instance is planar")),
-    }
+    let planar = planar_of(&rt, rt.alloc(), text.as_str())?;
+    Ok(assert_second_nest(&rt, rt.alloc(), &planar)?)
 }

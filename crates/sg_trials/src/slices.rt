@@ -1,8 +1,14 @@
 // Trees that grow in slices of time, beside trees that all grow at once.
 
+ghost use Rattle.sg_graph.specs.Join.{AreTerminals};
+ghost use Rattle.sg_graph_text.specs.Network.{IsNetwork};
+
+use super::facts::expect;
 use super::webs::{drawn_grid, network_of};
 use rand_pcg::Pcg32;
 use sg_graph::{EdgeList, Terminals, Web};
+use sg_graph_text::Network;
+use sg_growth::Adjacency;
 use sg_nest::proves;
 use sg_region_engine::{Engine, Method};
 use sg_region_ways::join_of;
@@ -15,6 +21,20 @@ use std::test::Fail;
 // With no more terminals all trees grow at once.
 const BATCH: usize = 1024;
 
+// The T-join of the regions of an engine, which is run.
+fn run(
+    alloc: Global,
+    arcs: &Adjacency,
+    engine: &mut Engine<Unlimited>,
+) -> Result<Option<EdgeList>, AllocError> {
+    if !engine.run()? {
+        return Ok(None);
+    }
+    let pairs = engine.pairs()?;
+    let nest = engine.nest()?;
+    join_of(alloc, arcs, &nest, pairs.as_slice(), arcs.edges())
+}
+
 // The T-join of regions that grow in slices of time.
 fn sliced(alloc: Global, web: &Web, terminals: &Terminals) -> Result<Option<EdgeList>, AllocError> {
     let arcs = arcs_of(alloc, web, 2)?;
@@ -22,27 +42,41 @@ fn sliced(alloc: Global, web: &Web, terminals: &Terminals) -> Result<Option<Edge
     let allowed = Allowance::sliced(terminals.len(), places);
     let seeds = terminals.as_slice();
     let mut engine = Engine::<Unlimited>::new(alloc, &arcs, seeds, Method::InSlices, allowed)?;
-    if !engine.run()? {
-        return Ok(None);
-    }
-    let pairs = engine.pairs()?;
-    let nest = engine.nest()?;
-    join_of(alloc, &arcs, &nest, pairs.as_slice(), arcs.edges())
+    run(alloc, &arcs, &mut engine)
 }
 
-// There is such a T-join, and a nest of regions that grew at once proves it minimum. Whether there were slices.
+// Whether there is a proposal, and its nest of regions that grew at once proves the T-join minimum.
+fn is_least(
+    alloc: Global,
+    web: &Web,
+    terminals: &Terminals,
+    edges: &EdgeList,
+) -> Result<bool, AllocError>
+    requires { AreTerminals web.now terminals.now }
+{
+    match propose_nest(alloc, web, terminals)?.found {
+        Some(proposal) => proves(alloc, web, terminals, edges, &proposal.nest),
+        None => Ok(false),
+    }
+}
+
+// Whether there is a T-join of regions that grow in slices of time, and it is minimum.
+fn has_least(alloc: Global, network: &Network) -> Result<bool, AllocError>
+    requires { IsNetwork network.now.web network.now.terminals }
+{
+    let (web, terminals) = (&network.web, &network.terminals);
+    match sliced(alloc, web, terminals)? {
+        Some(edges) => is_least(alloc, web, terminals, &edges),
+        None => Ok(false),
+    }
+}
+
+// There is such a T-join. Whether there were slices.
 fn assert_sliced(rt: &impl Abort, alloc: Global, text: &str) -> Result<bool, Fail> {
     let network = network_of(rt, alloc, text)?;
-    let (web, terminals) = (&network.web, &network.terminals);
-    let Some(edges) = sliced(alloc, web, terminals)? else {
-        return Err(Fail::new("the slices give a T-join"));
-    };
-    let Some(proposal) = propose_nest(alloc, web, terminals)?.found else {
-        return Err(Fail::new("there is a proposal"));
-    };
-    let is_least = proves(alloc, web, terminals, &edges, &proposal.nest)?;
-    assert!(rt; is_least, "{text}");
-    Ok(terminals.len() > BATCH)
+    let is_least = has_least(alloc, &network)?;
+    expect(rt, text, is_least);
+    Ok(network.terminals.len() > BATCH)
 }
 
 #[test]
@@ -56,6 +90,6 @@ fn slices(rt: HostRuntime) -> Result<(), Fail> {
             count = count.saturating_add(1);
         }
     }
-    assert!(rt; count >= 3);
+    expect(&rt, "number of runs with slices", count >= 3);
     Ok(())
 }

@@ -5,7 +5,8 @@ ghost use Rattle.std.specs.Prelude.{◌≡◌, ◌<◌};
 ghost use Rattle.sg_model.specs.Ising.{bond_count};
 ghost use Rattle.sg_model.specs.Spins.{IsUpOrDown};
 
-use super::least::{SHAPES, WORKED, drawn, instance};
+use super::facts::expect;
+use super::least::{SHAPES, WORKED, drawn, planar_of};
 use rand_pcg::Pcg32;
 use sg_bonds::{BondStates, LeastBroken};
 use sg_planar::{Part, Planar, parts};
@@ -100,33 +101,31 @@ fn assert_parts(
     parts: &[Part],
     step: usize,
     text: &str,
-) -> Result<(), Fail> {
+) -> Result<(), AllocError> {
     for part in parts {
-        assert!(rt; are_proved(alloc, &part.planar, step)?, "{text}");
+        let is_proved = are_proved(alloc, &part.planar, step)?;
+        expect(rt, text, is_proved);
     }
     Ok(())
 }
 
 // The same for the instance of a text.
 fn assert_repaired(rt: &impl Abort, alloc: Global, step: usize, text: &str) -> Result<(), Fail> {
-    let inst = instance(rt, alloc, text)?;
-    let Ok(planar) = Planar::new(alloc, inst) else {
-        return Err(Fail::new("the instance is planar"));
-    };
+    let planar = planar_of(rt, alloc, text)?;
     let list = parts(alloc, &planar)?;
-    assert_parts(rt, alloc, list.as_slice(), step, text)
+    Ok(assert_parts(rt, alloc, list.as_slice(), step, text)?)
 }
 
 #[test]
 fn worked_instances_are_repaired(rt: HostRuntime) -> Result<(), Fail> {
-    for text in WORKED {
+    for text in &WORKED {
         assert_repaired(&rt, rt.alloc(), 1, text)?;
     }
     Ok(())
 }
 
 // Lattices of some 120 to 260 bonds.
-const LARGER: [(&str, u32); 5] = [
+static LARGER: [(&str, u32); 5] = [
     ("square,12,12", 264),
     ("square,2,40", 118),
     ("triangular,9,9", 208),
@@ -137,9 +136,9 @@ const LARGER: [(&str, u32); 5] = [
 #[test]
 fn drawn_lattices_are_repaired(rt: HostRuntime) -> Result<(), Fail> {
     let mut draws = Pcg32::new(47, 54);
-    for (shape, bonds) in SHAPES {
+    for (shape, bonds) in &SHAPES {
         for trial in 0..20 {
-            let text = drawn(rt.alloc(), shape, bonds, trial % 5, &mut draws)?;
+            let text = drawn(rt.alloc(), shape, *bonds, trial % 5, &mut draws)?;
             assert_repaired(&rt, rt.alloc(), 1, text.as_str())?;
         }
     }
@@ -149,9 +148,9 @@ fn drawn_lattices_are_repaired(rt: HostRuntime) -> Result<(), Fail> {
 #[test]
 fn larger_lattices_are_repaired(rt: HostRuntime) -> Result<(), Fail> {
     let mut draws = Pcg32::new(48, 54);
-    for (shape, bonds) in LARGER {
+    for (shape, bonds) in &LARGER {
         for kind in 0..5 {
-            let text = drawn(rt.alloc(), shape, bonds, kind, &mut draws)?;
+            let text = drawn(rt.alloc(), shape, *bonds, kind, &mut draws)?;
             assert_repaired(&rt, rt.alloc(), 1, text.as_str())?;
         }
     }

@@ -3,6 +3,7 @@
 ghost use Rattle.std.specs.Prelude.{◌≤◌, IfOk};
 ghost use Rattle.sg_graph_text.specs.Network.{IsNetwork};
 
+use super::facts::expect;
 use super::proposals::assert_good;
 use rand_core::utils::NextWord;
 use rand_pcg::Pcg32;
@@ -14,14 +15,19 @@ use std::process::Abort;
 use std::test::Fail;
 
 // What is proposed has to be good, and the T-join to weigh what that of the matching weighs.
-fn assert_network(rt: &impl Abort, alloc: Global, network: &Network, text: &str) -> Result<(), Fail>
+fn assert_network(
+    rt: &impl Abort,
+    alloc: Global,
+    network: &Network,
+    text: &str,
+) -> Result<(), AllocError>
     requires { IsNetwork network.now.web network.now.terminals }
 {
     let (web, terminals) = (&network.web, &network.terminals);
     assert_good(rt, alloc, web, terminals, text)?;
     let answered = least_join(alloc, web, terminals)?.weight;
     let matched = matched_join(alloc, web, terminals)?.weight;
-    assert_eq!(rt; answered, matched, "{text}");
+    expect(rt, text, answered == matched);
     Ok(())
 }
 
@@ -39,7 +45,7 @@ pub(crate) fn network_of(rt: &impl Abort, alloc: Global, text: &str) -> Result<N
 // The same for the graph of a text.
 fn assert_proposed(rt: &impl Abort, alloc: Global, text: &str) -> Result<(), Fail> {
     let network = network_of(rt, alloc, text)?;
-    assert_network(rt, alloc, &network, text)
+    Ok(assert_network(rt, alloc, &network, text)?)
 }
 
 // All weights 0, all 1, few with many zeros, few, or of many sizes.
@@ -146,10 +152,10 @@ fn assert_few_steps(
     alloc: Global,
     network: &Network,
     nodes: u32,
-) -> Result<(), Fail> {
+) -> Result<(), AllocError> {
     let growth = propose(alloc, &network.web, &network.terminals)?.growth;
-    assert!(rt; growth.blossoms <= 2);
-    assert!(rt; growth.events <= 3 * u64::from(nodes));
+    expect(rt, "few blossoms", growth.blossoms <= 2);
+    expect(rt, "few events", growth.events <= 3 * u64::from(nodes));
     Ok(())
 }
 

@@ -1,0 +1,11 @@
+// What must hold. An assertion costs the prover most beside lists that are to be dropped: this one owns none.
+ghost use Rattle.std.specs.Prelude.{IsTrue};
+
+use std::process::Abort;
+
+/// A fact must hold. At a failure the test prints what it is about.
+pub fn expect(rt: &impl Abort, about: &str, fact: bool)
+    ensures { IsTrue fact }
+{
+    assert!(rt; fact, "{about}");
+}
