@@ -1,4 +1,5 @@
 use Rattle.std.proofs.Common.{ap, arith, get_or, length, rules, subst, sym, ◌+◌, ◌<◌, ◌≡◌, ◌∙◌, ℕ}
+use Rattle.std.proofs.lemmas.Grind.{elements}
 use Rattle.std.proofs.lemmas.List.{get_or_read, with_items_is}
 use Rattle.std.proofs.lemmas.Result.{IfOk-weaker}
 use Rattle.sg_sums.specs.Sets.{chosen_below, is_marked}
@@ -70,3 +71,6 @@ returns-clause-bare c =
     IfOk-weaker c.places.result _ _ (λ list same none. same ∙ chosen_is now
     ∙ chosen_bare c.args.web.now c.args.terminals.now c.args.tables.now c.args.mates.now c.loop-i.odd.items c.requires.terminals c.requires.pairing
     (all_turned now) none) c.places.ensures
+
+pub turn_walk-requires-clause-reached : goal.turn_walk-requires-clause-reached
+turn_walk-requires-clause-reached c = grind (arith, elements)
