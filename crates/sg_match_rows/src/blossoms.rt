@@ -335,7 +335,7 @@ struct Row {
     cycles: [usize; 3],
 }
 
-const ROWS: [Row; 17] = [
+static ROWS: [Row; 17] = [
     Row {
         change: Change::Lift(0, 5),
         totals: [5, 0, 0, 0, 0, 0, 0, 0, 0],

@@ -7,7 +7,7 @@ use std::process::Abort;
 use std::test::Fail;
 
 // The studies of an instance.
-const STUDIES: [&str; 8] = [
+static STUDIES: [&str; 8] = [
     "energy", "ground", "wall", "bonds", "clusters", "report", "ranges", "maxcut",
 ];
 
@@ -34,7 +34,7 @@ fn each_study_of_each_form_is_answered(rt: HostRuntime) -> Result<(), Fail> {
         "{\"kind\":\"general\",\"n\":2,\"bonds\":[[0,1,7]],\"rotation\":[[0],[1]],\"seam\":[0]}",
     ];
     for input in inputs {
-        for study in STUDIES {
+        for study in &STUDIES {
             expect_study(&rt, rt.alloc(), study, input)?;
         }
     }

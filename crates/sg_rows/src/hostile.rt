@@ -86,7 +86,7 @@ struct Growing {
     lines: &'static [(usize, &'static str)],
 }
 
-const GROWING: [Growing; 6] = [
+static GROWING: [Growing; 6] = [
     Growing {
         command: "energy",
         input: "square,2,2\n3,4\n2,-5\nend\n",

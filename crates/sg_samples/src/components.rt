@@ -40,21 +40,22 @@ fn parts_of(alloc: Global, text: &str) -> Result<Vec<i128>, Fail> {
     Ok(written(alloc, list.as_slice())?)
 }
 
+static ROWS: [(&str, &[i128]); 3] = [
+    (
+        "general,4\nbond,0,1,2\nbond,2,3,-5\nrot,0,0\nrot,1,1\nrot,2,2\nrot,3,3\nend\n",
+        &[2, 0, 1, 1, 0, 0, 1, 2, 2, 2, 3, 1, 1, 0, 1, -5],
+    ),
+    (
+        "general,5\nbond,4,1,3\nbond,2,0,-7\nbond,1,3,4\nrot,0,3\nrot,1,1,4\nrot,2,2\nrot,3,5\nrot,4,0\nend\n",
+        &[
+            2, 0, 2, 1, 1, 1, 0, -7, 3, 1, 3, 4, 2, 0, 2, 2, 0, 3, 0, 1, 4,
+        ],
+    ),
+    ("general,2\nend\n", &[1, 0, 0, 1, 1, 0]),
+];
+
 #[test]
 fn each_component_is_a_part(rt: HostRuntime) -> Result<(), Fail> {
-    const ROWS: [(&str, &[i128]); 3] = [
-        (
-            "general,4\nbond,0,1,2\nbond,2,3,-5\nrot,0,0\nrot,1,1\nrot,2,2\nrot,3,3\nend\n",
-            &[2, 0, 1, 1, 0, 0, 1, 2, 2, 2, 3, 1, 1, 0, 1, -5],
-        ),
-        (
-            "general,5\nbond,4,1,3\nbond,2,0,-7\nbond,1,3,4\nrot,0,3\nrot,1,1,4\nrot,2,2\nrot,3,5\nrot,4,0\nend\n",
-            &[
-                2, 0, 2, 1, 1, 1, 0, -7, 3, 1, 3, 4, 2, 0, 2, 2, 0, 3, 0, 1, 4,
-            ],
-        ),
-        ("general,2\nend\n", &[1, 0, 0, 1, 1, 0]),
-    ];
     for (text, wanted) in &ROWS {
         let numbers = parts_of(rt.alloc(), text)?;
         expect(&rt, text, numbers.as_slice() == *wanted);

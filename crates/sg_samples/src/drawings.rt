@@ -23,29 +23,30 @@ fn traced_of(alloc: Global, text: &str) -> Result<Vec<u32>, Fault> {
     Ok(traced(alloc, &inst)?)
 }
 
+static ROWS: [(&str, &[u32]); 7] = [
+    ("square,1,1\nend\n", &[1]),
+    ("general,2\nend\n", &[2]),
+    (
+        "# a bond beside a spin alone\ngeneral,3\nbond,0,2,1\nrot,0,0\nrot,2,1\nend\n",
+        &[2, 0, 0],
+    ),
+    ("square,2,2\n3,4,2,-5\nend\n", &[2, 0, 1, 1, 0, 1, 0, 0, 1]),
+    (
+        "# a tree: one face, on both sides of each bond\ngeneral,4\nbond,0,1,1\nbond,0,2,1\nbond,0,3,1\nrot,0,0,2,4\nrot,1,1\nrot,2,3\nrot,3,5\nend\n",
+        &[1, 0, 0, 0, 0, 0, 0],
+    ),
+    (
+        "general,2\nbond,0,1,1\nbond,0,1,1\nbond,0,1,1\nrot,0,0,2,4\nrot,1,1,5,3\nend\n",
+        &[3, 0, 1, 1, 2, 2, 0],
+    ),
+    (
+        "# in the same order at both ends the bonds lie on a torus\ngeneral,2\nbond,0,1,1\nbond,0,1,1\nbond,0,1,1\nrot,0,0,2,4\nrot,1,1,3,5\nend\n",
+        &[1, 0, 0, 0, 0, 0, 0],
+    ),
+];
+
 #[test]
 fn faces_are_labelled_by_their_least_darts(rt: HostRuntime) -> Result<(), Fail> {
-    const ROWS: [(&str, &[u32]); 7] = [
-        ("square,1,1\nend\n", &[1]),
-        ("general,2\nend\n", &[2]),
-        (
-            "# a bond beside a spin alone\ngeneral,3\nbond,0,2,1\nrot,0,0\nrot,2,1\nend\n",
-            &[2, 0, 0],
-        ),
-        ("square,2,2\n3,4,2,-5\nend\n", &[2, 0, 1, 1, 0, 1, 0, 0, 1]),
-        (
-            "# a tree: one face, on both sides of each bond\ngeneral,4\nbond,0,1,1\nbond,0,2,1\nbond,0,3,1\nrot,0,0,2,4\nrot,1,1\nrot,2,3\nrot,3,5\nend\n",
-            &[1, 0, 0, 0, 0, 0, 0],
-        ),
-        (
-            "general,2\nbond,0,1,1\nbond,0,1,1\nbond,0,1,1\nrot,0,0,2,4\nrot,1,1,5,3\nend\n",
-            &[3, 0, 1, 1, 2, 2, 0],
-        ),
-        (
-            "# in the same order at both ends the bonds lie on a torus\ngeneral,2\nbond,0,1,1\nbond,0,1,1\nbond,0,1,1\nrot,0,0,2,4\nrot,1,1,3,5\nend\n",
-            &[1, 0, 0, 0, 0, 0, 0],
-        ),
-    ];
     for (text, wanted) in &ROWS {
         let labels = traced_of(rt.alloc(), text)?;
         expect(&rt, text, labels.as_slice() == *wanted);

@@ -44,16 +44,17 @@ fn written_of(alloc: Global, text: &str) -> Result<Vec<i64>, Fault> {
     Ok(written(alloc, &inst)?)
 }
 
+static ROWS: [(&str, &[i64]); 3] = [
+    (
+        "square,2,2\n3,4,2,-5\nend\n",
+        &[2, 0, 1, 3, 1, 0, 4, 1, 0, 2, 0, 1, 5, 0, 1],
+    ),
+    ("square,1,1\nend\n", &[1]),
+    ("square,1,2\n-7\nend\n", &[1, 0, 0, 7]),
+];
+
 #[test]
 fn a_face_with_an_odd_number_of_negative_sides_is_frustrated(rt: HostRuntime) -> Result<(), Fail> {
-    const ROWS: [(&str, &[i64]); 3] = [
-        (
-            "square,2,2\n3,4,2,-5\nend\n",
-            &[2, 0, 1, 3, 1, 0, 4, 1, 0, 2, 0, 1, 5, 0, 1],
-        ),
-        ("square,1,1\nend\n", &[1]),
-        ("square,1,2\n-7\nend\n", &[1, 0, 0, 7]),
-    ];
     for (text, wanted) in &ROWS {
         let numbers = written_of(rt.alloc(), text)?;
         expect(&rt, text, numbers.as_slice() == *wanted);

@@ -35,12 +35,13 @@ fn couplings(alloc: Global, inst: &Instance) -> Result<Vec<i64>, AllocError> {
     Ok(couplings)
 }
 
+static ROWS: [(&str, &[i128]); 2] = [
+    ("square,1,1\nend\n", &[0, 1]),
+    ("square,2,2\n3,4,2,-5\nend\n", &[-10, 1, 1, -1, -1]),
+];
+
 #[test]
 fn the_weakest_bond_breaks(rt: HostRuntime) -> Result<(), Fail> {
-    const ROWS: [(&str, &[i128]); 2] = [
-        ("square,1,1\nend\n", &[0, 1]),
-        ("square,2,2\n3,4,2,-5\nend\n", &[-10, 1, 1, -1, -1]),
-    ];
     for (text, wanted) in &ROWS {
         let numbers = least_of(rt.alloc(), text)?;
         expect(&rt, text, numbers.as_slice() == *wanted);

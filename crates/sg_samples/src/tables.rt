@@ -30,29 +30,29 @@ fn written_of(alloc: Global, text: &str) -> Result<Vec<usize>, Fault> {
     Ok(written(alloc, &inst)?)
 }
 
+static ROWS: [(&str, &[usize]); 4] = [
+    (
+        "square,2,2\n3,4,2,-5\nend\n",
+        &[2, 0, 4, 2, 1, 6, 2, 2, 5, 2, 7, 3, 0],
+    ),
+    (
+        "triangular,2,2\n-1,-1,-1,-1,-1\nend\n",
+        &[3, 0, 4, 8, 2, 1, 6, 2, 2, 5, 3, 7, 9, 3, 0],
+    ),
+    (
+        "hexagonal,2,3\n4,5,6,7,3,-8\nend\n",
+        &[2, 0, 8, 2, 2, 1, 2, 3, 10, 2, 4, 9, 2, 6, 5, 2, 11, 7, 0],
+    ),
+    (
+        "cylinder,2,3\n1,2,3,4,5,6,7,8,9\nend\n",
+        &[
+            3, 0, 5, 12, 3, 2, 1, 14, 3, 4, 3, 16, 3, 6, 13, 11, 3, 8, 15, 7, 3, 10, 17, 9, 2, 2, 5,
+        ],
+    ),
+];
+
 #[test]
 fn lattices_are_laid_out_row_by_row(rt: HostRuntime) -> Result<(), Fail> {
-    const ROWS: [(&str, &[usize]); 4] = [
-        (
-            "square,2,2\n3,4,2,-5\nend\n",
-            &[2, 0, 4, 2, 1, 6, 2, 2, 5, 2, 7, 3, 0],
-        ),
-        (
-            "triangular,2,2\n-1,-1,-1,-1,-1\nend\n",
-            &[3, 0, 4, 8, 2, 1, 6, 2, 2, 5, 3, 7, 9, 3, 0],
-        ),
-        (
-            "hexagonal,2,3\n4,5,6,7,3,-8\nend\n",
-            &[2, 0, 8, 2, 2, 1, 2, 3, 10, 2, 4, 9, 2, 6, 5, 2, 11, 7, 0],
-        ),
-        (
-            "cylinder,2,3\n1,2,3,4,5,6,7,8,9\nend\n",
-            &[
-                3, 0, 5, 12, 3, 2, 1, 14, 3, 4, 3, 16, 3, 6, 13, 11, 3, 8, 15, 7, 3, 10, 17, 9, 2,
-                2, 5,
-            ],
-        ),
-    ];
     for (text, wanted) in &ROWS {
         let numbers = written_of(rt.alloc(), text)?;
         expect(&rt, text, numbers.as_slice() == *wanted);

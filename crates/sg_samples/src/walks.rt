@@ -65,12 +65,13 @@ fn walked_in(
     Ok(walked(rt, alloc, &all[0], broken)?)
 }
 
+static ROWS: [(&str, &[u32], &[i8]); 2] = [
+    ("square,1,2\n-3\nend\n", &[], &[1, -1]),
+    ("square,2,2\n3,4,2,-5\nend\n", &[2], &[1, 1, -1, -1]),
+];
+
 #[test]
 fn a_walk_breaks_the_bonds_of_the_list(rt: HostRuntime) -> Result<(), Fail> {
-    const ROWS: [(&str, &[u32], &[i8]); 2] = [
-        ("square,1,2\n-3\nend\n", &[], &[1, -1]),
-        ("square,2,2\n3,4,2,-5\nend\n", &[2], &[1, 1, -1, -1]),
-    ];
     for (text, broken, wanted) in &ROWS {
         let found = walked_in(&rt, rt.alloc(), text, broken)?;
         // Without spins no assignment breaks just these bonds.
