@@ -14,8 +14,8 @@ ghost use Rattle.sg_ground.specs.Allowance.{TablesExceed};
 ghost use Rattle.sg_wall.specs.Wall.{WallTablesExceed};
 
 use sg_calls::{
-    Given, GivenLoops, GivenNest, NO_PROOF, Unanswered, clusters_of, code_by, costs_of, fill, ground_of, judge,
-    judge_nest, nest_of, refuse, wall_of,
+    Given, GivenLoops, GivenNest, NO_PROOF, Unanswered, clusters_of, code_by, costs_of, fill,
+    ground_of, judge, judge_nest, nest_of, refuse, wall_of,
 };
 use sg_cli::Status;
 use std::alloc::Global;

@@ -10,7 +10,8 @@ ghost use Rattle.sg_calls.specs.Networks.{GivesWeb, IsStatedFault, IsWebFault, l
 ghost use Rattle.sg_calls.specs.Proofs.{HandsNest, lists_fault, nest_lists};
 
 use sg_calls::{
-    GivenLists, GivenNest, GivenWeb, NO_PROOF, Unanswered, fill, join_of, joins_of, judge_join, refuse,
+    GivenLists, GivenNest, GivenWeb, NO_PROOF, Unanswered, fill, join_of, joins_of, judge_join,
+    refuse,
 };
 use sg_cli::Status;
 use std::alloc::Global;
