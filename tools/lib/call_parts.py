@@ -28,7 +28,7 @@ from stopwatch import LIBRARY
 # The parts in the order in which they come, each with the beginnings of its functions' names. Of two that
 # fit the longer decides.
 PARTS = {
-    "reading numbers": ("ising2d_c", "sg_lattice", "sg_model", "sg_draft", "sg_json", "sg_reader"),
+    "reading numbers": ("ising2d_c", "sg_calls", "sg_lattice", "sg_model", "sg_draft", "sg_json", "sg_reader"),
     "faces, genus, components": ("sg_faces", "sg_planar", "sg_walk"),
     "dual and frustrated faces": ("sg_dual", "sg_graph"),
     "growing regions": ("sg_region_engine", "sg_regions", "sg_growth", "sg_forest", "sg_agenda", "sg_work", "sg_slots"),
