@@ -70,13 +70,23 @@ pub struct Link {
 /// One slab keeps all nodes. A child knows its blossom, the sibling that follows and the link to
 /// it; a blossom knows its first child and how many there are. [`Arena::open`] reserves two cells for
 /// each leaf, and a family has fewer nodes than that.
-#[derive(Drop)]
 pub struct Arena {
     cells: Slab<Cell>,
     // The name of each leaf's node.
     leaves: Vec<usize>,
     // The family that the cells stand for.
     history: History,
+}
+
+// An explicit `Drop`: otherwise every owner drops the cells and the history by itself, and the prover pays for each.
+impl Drop for Arena {
+    fn drop(self) {
+        let Arena {
+            cells: _cells,
+            leaves: _leaves,
+            history: _history,
+        } = self;
+    }
 }
 
 impl Model for Arena {
