@@ -1,6 +1,6 @@
 // One answer to words and an input, one run over the devices in memory, and what must come of them.
 //
-// An assertion costs the prover most beside values that are to be dropped. Those here own nothing.
+// An assertion costs the prover most beside values that are to be dropped. That here owns nothing.
 use sg_cli::{Status, run};
 use sg_io::{CallList, MemSink, MemSource};
 use sg_laws::Disorder;
@@ -13,7 +13,7 @@ use std::test::Fail;
 pub type Answer = (Status, Vec<u8>);
 
 // The words as the program gets them.
-pub fn words(alloc: Global, line: &str) -> Result<Vec<String>, AllocError> {
+fn words(alloc: Global, line: &str) -> Result<Vec<String>, AllocError> {
     let mut words = Vec::new(alloc);
     for word in line.split_whitespace() {
         words.push(String::from_str(alloc, word)?)?;
@@ -35,28 +35,11 @@ pub fn no_laws(alloc: Global) -> Vec<Box<dyn Disorder>> {
     Vec::new(alloc)
 }
 
-// The status and the text of the reply.
-pub fn answer(alloc: Global, line: &str, input: &[u8]) -> Result<Answer, Fail> {
-    answer_with(alloc, line, input, no_laws(alloc))
-}
-
-// The same with laws to draw from.
-pub fn answer_with(
-    alloc: Global,
-    line: &str,
-    input: &[u8],
-    laws: Vec<Box<dyn Disorder>>,
-) -> Result<Answer, Fail> {
+// The status and the text of the reply with these laws, to words that read nothing.
+pub fn drawn(alloc: Global, line: &str, laws: Vec<Box<dyn Disorder>>) -> Result<Answer, Fail> {
     let words = words(alloc, line)?;
-    let reply = sg_cli::answer(alloc, words.as_slice(), input, laws)?;
+    let reply = sg_cli::answer(alloc, words.as_slice(), b"not read", laws)?;
     Ok((reply.status, reply.text))
-}
-
-// What `check` says of an instance and what is stated of it.
-pub fn judged(alloc: Global, instance: &[u8], stated: &[u8]) -> Result<Answer, Fail> {
-    let mut proof = Vec::from_slice(alloc, instance)?;
-    proof.extend_from_slice(stated)?;
-    answer(alloc, "check", proof.as_slice())
 }
 
 // A source and a sink: how many bytes each takes at a call, the room of the sink, and the call of each
@@ -69,15 +52,6 @@ pub struct Devices {
     pub write_fails: Option<u64>,
     pub room: usize,
 }
-
-// Devices that do not fail.
-const SOUND: Devices = Devices {
-    read_piece: 7,
-    read_fails: None,
-    write_piece: 5,
-    write_fails: None,
-    room: 1 << 20,
-};
 
 // The source of these devices.
 fn source_of(alloc: Global, input: &[u8], devices: &Devices) -> Result<MemSource, AllocError> {
@@ -118,11 +92,6 @@ pub fn run_over(
     Ok((status, Vec::from_slice(alloc, sink.bytes())?))
 }
 
-// A fact about a row must hold.
-pub fn expect_fact<R: Abort>(rt: &R, row: (&str, &str), fact: bool) {
-    assert!(rt; fact, "{}, {}", row.0, row.1);
-}
-
 // What was found, for the message of a failure.
 fn shown(found: &Answer) -> &str {
     str::from_utf8(found.1.as_slice()).unwrap_or("no text")
@@ -132,68 +101,4 @@ fn shown(found: &Answer) -> &str {
 pub fn expect_answer<R: Abort>(rt: &R, row: (&str, &str), found: &Answer, wanted: (Status, &str)) {
     let is_wanted = found.0 == wanted.0 && found.1.as_slice() == wanted.1.as_bytes();
     assert!(rt; is_wanted, "{}, {}: {}", row.0, row.1, shown(found));
-}
-
-// A row must be done, and its text must begin so.
-pub fn expect_front<R: Abort>(rt: &R, row: (&str, &str), found: &Answer, front: &str) {
-    let is_done = found.0 == Status::Done;
-    expect_fact(
-        rt,
-        row,
-        is_done && found.1.as_slice().starts_with(front.as_bytes()),
-    );
-}
-
-// Runs a row over devices in memory, and compares what came of it.
-pub fn expect_row<R: Abort>(
-    rt: &R,
-    alloc: Global,
-    line: &str,
-    input: &str,
-    wanted: (Status, &str),
-) -> Result<(), Fail> {
-    let found = run_over(alloc, line, input, &SOUND)?;
-    expect_answer(rt, (line, input), &found, wanted);
-    Ok(())
-}
-
-// Does so for each input and its text, of one command and one status.
-pub fn expect_rows<R: Abort>(
-    rt: &R,
-    alloc: Global,
-    command: (&str, Status),
-    rows: &[(&str, &str)],
-) -> Result<(), Fail> {
-    let (line, status) = command;
-    for (input, text) in rows {
-        expect_row(rt, alloc, line, input, (status, text))?;
-    }
-    Ok(())
-}
-
-// The same where each input has its command.
-pub fn expect_lines<R: Abort>(
-    rt: &R,
-    alloc: Global,
-    status: Status,
-    rows: &[(&str, &str, &str)],
-) -> Result<(), Fail> {
-    for (line, input, text) in rows {
-        expect_row(rt, alloc, line, input, (status, text))?;
-    }
-    Ok(())
-}
-
-// The same where all inputs of a command have one answer.
-pub fn expect_each<R: Abort>(
-    rt: &R,
-    alloc: Global,
-    line: &str,
-    wanted: (Status, &str),
-    inputs: &[&str],
-) -> Result<(), Fail> {
-    for input in inputs {
-        expect_row(rt, alloc, line, input, wanted)?;
-    }
-    Ok(())
 }
