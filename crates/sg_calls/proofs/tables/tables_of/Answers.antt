@@ -22,3 +22,6 @@ returns-clause-gives c =
       study = rw (c.in_ok-ends.ensures, c.bonds.ensures.value, c.in_ok-seam.ensures.cases, c.seam.ensures.value)
           (are-tables inst js c.in_ok-starts.starts.items c.in_ok-starts.darts.items is coupled cut);
     }
+
+pub returns-in_err-instance-clause-refuses : goal.returns-in_err-instance-clause-refuses
+returns-in_err-instance-clause-refuses c = search rules

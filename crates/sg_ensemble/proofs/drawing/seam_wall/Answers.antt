@@ -1,4 +1,4 @@
-use Rattle.std.proofs.Common.{◌≡◌, ◌≤◌, ◌*◌, ap, arith, to_z, of_z, w64}
+use Rattle.std.proofs.Common.{◌≡◌, ◌≤◌, ◌*◌, ap, arith, to_z, of_z, w64, rules}
 use Rattle.std.specs.Prelude.{unsigned_abs}
 use Rattle.std.proofs.lemmas.Int.{fits_signed_from_abs, to_z-of_z}
 use Rattle.sg_model.specs.Energy.{weight}
@@ -13,3 +13,6 @@ returns-clause-size c =
     c.instance-instance.ensures.planar.instance c.in_ok-wall.ensures.wall in
     let kept : to_z w64 (of_z w64 d) ≡ d = to_z-of_z w64 d (fits_signed_from_abs w64 d (omega (arith, size, c.requires))) in
     omega (arith, ap unsigned_abs kept, size, c.requires)
+
+pub returns-clause-wall : goal.returns-clause-wall
+returns-clause-wall c = search rules

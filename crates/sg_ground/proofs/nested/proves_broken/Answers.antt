@@ -1,4 +1,4 @@
-use Rattle.std.proofs.Common.{arith}
+use Rattle.std.proofs.Common.{arith, rules}
 use Rattle.std.proofs.lemmas.Grind.{common_steps}
 use Rattle.std.proofs.lemmas.Result.{IfOk-weaker}
 use Rattle.sg_ground.proofs.NestProofs.{ground_by_broken}
@@ -14,3 +14,6 @@ returns-clause-least c =
 
 pub broken_bonds-requires : goal.broken_bonds-requires
 broken_bonds-requires c = grind (arith, common_steps)
+
+pub returns-clause-proves : goal.returns-clause-proves
+returns-clause-proves c = search rules

@@ -9,3 +9,6 @@ returns-clause-solution c =
     rw (to_z-of_z {w = w64} {z = state.energy} (search rules), c.in_ok-loops.ensures)
     (solution_from_join c.args.planar.now c.join_faces.ensures.planar c.requires.connected state.spins state.energy join.weight join.edges join.cuts
     c.in_ok-state.ensures.breaks c.in_ok-state.ensures.state c.in_ok-join.ensures.join)
+
+pub joined_state-requires-clause-join : goal.joined_state-requires-clause-join
+joined_state-requires-clause-join c = search rules

@@ -18,3 +18,6 @@ returns-clause-state c =
     (state_by_weight c.args.planar.now c.instance-inst.ensures.planar c.requires.connected c.args.edges.now c.args.weight c.requires.join
     c.broken_energy-energy.result (rw (to_z-of_z {w = w64} {z = c.args.weight} (search rules), c.instance-inst.ensures.value) at c.broken_energy-energy.ensures)
     c.in_ok-spins.spins found.assignment found.first_up found.breaks)
+
+pub returns-clause-breaks : goal.returns-clause-breaks
+returns-clause-breaks c = search rules

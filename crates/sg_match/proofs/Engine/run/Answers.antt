@@ -56,3 +56,6 @@ returns-clause-bounded g c =
     let all : AllPaired c.self.inside.arena c.self.inside.pairs.items = search rules in
     let few = steps-paired (state_of c.self.inside) c.self.invariant.engine all in
     subst (λ (t : Table). c.self.inside.arena.steps ≤ 2 * t.size * t.size) (same_table g c) few
+
+pub returns-clause-alike : goal.returns-clause-alike
+returns-clause-alike c = search rules

@@ -1,3 +1,4 @@
+use Rattle.std.proofs.lemmas.Grind.{common_steps}
 use Rattle.std.proofs.Common.{◌+◌, ◌≡◌, ap, sym, subst, arith, rules, ◌∙◌}
 use Rattle.std.proofs.lemmas.List.{get_or_read, with_items_is}
 use Rattle.sg_moat.specs.Depths.{AreDepths, Lowers}
@@ -31,3 +32,6 @@ loop-leaf-preserved c =
 pub returns : goal.returns
 returns c =
     grind (arith, depths-end, depth_by, c.requires.leaves, c.loop-leaf-test.false, c.loop-leaf.auto.leaf-end, c.room-room.ensures.family, c.loop-leaf.invariant)
+
+pub loop-leaf-init : goal.loop-leaf-init
+loop-leaf-init c = grind (arith, common_steps)

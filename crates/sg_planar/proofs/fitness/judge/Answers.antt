@@ -1,4 +1,4 @@
-use Rattle.std.proofs.Common.{arith}
+use Rattle.std.proofs.Common.{arith, rules}
 use Rattle.std.proofs.lemmas.Grind.{elements}
 use Rattle.sg_planar.proofs.fitness.judge.Goals as goal
 
@@ -10,3 +10,9 @@ returns-clause-faces c = grind (arith, elements)
 
 pub returns-clause-components : goal.returns-clause-components
 returns-clause-components c = grind (arith, elements)
+
+pub returns-then-euler-ne2-clause-unfit : goal.returns-then-euler-ne2-clause-unfit
+returns-then-euler-ne2-clause-unfit c = search rules
+
+pub returns-clause-fit : goal.returns-clause-fit
+returns-clause-fit c = search rules
