@@ -1,7 +1,6 @@
 -- Up from a leaf: the sets that hold it lie one in another, each a child of the next.
-use Rattle.std.proofs.Common.{arith, false, get_or, inl, inr, length, subst, suc, sym, zero, ℕ}
-use Rattle.std.proofs.Common.{◌||◌, ◌<◌, ◌∙◌, ◌≡◌, ◌≢◌, ◌≤◌, Bool}
-use Rattle.std.proofs.lemmas.Bool.{cases_eq, cases_lt, eqb-true}
+use Rattle.std.proofs.Common.{arith, false, get_or, inl, inr, length, subst, suc, sym, zero, ℕ, ◌||◌, ◌<◌, ◌∙◌, ◌≡◌, ◌≢◌, ◌≤◌, Bool, eqb-true}
+use Rattle.std.proofs.lemmas.Bool.{cases_eq, cases_lt}
 use Rattle.std.proofs.lemmas.List.{get_or_read}
 use Rattle.std.proofs.lemmas.List.Sums.{count_by-le-length}
 use Rattle.std.proofs.lemmas.List.FromFn.{length-range_with_len}

@@ -1,7 +1,6 @@
 -- The family without a blossom of dual 0, as `expand` leaves it: what it keeps and what it gains.
-use Rattle.std.proofs.Common.{IsSome, None, [], ap, arith, inl, inr, length, subst, sym, ℕ, ◌<◌, ◌∙◌, ◌≡◌, ◌≢◌, ◌⊎◌}
+use Rattle.std.proofs.Common.{IsSome, None, [], ap, arith, inl, inr, length, subst, sym, ℕ, ◌<◌, ◌∙◌, ◌≡◌, ◌≢◌, ◌⊎◌, get_or-set_other, get_or-set_same}
 use Rattle.std.proofs.lemmas.Bool.{cases_Bool, cases_eq, false≢true}
-use Rattle.std.proofs.lemmas.List.{get_or-set_other, get_or-set_same}
 use Rattle.std.proofs.lemmas.List.Sums.{sum_by-set}
 use Rattle.std.specs.Option.{option_map_or}
 use Rattle.sg_arena.specs.declared.Link.{Link}

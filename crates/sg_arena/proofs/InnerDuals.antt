@@ -1,10 +1,9 @@
 -- What the duals of the smaller sets within a set sum to at a leaf: nothing at the leaf's own node, one dual more with each
 -- step up, and at a top all but its own dual.
-use Rattle.std.proofs.Common.{◌≡◌, ◌≢◌, ℕ, ◌+◌, ◌<◌, ◌≤◌, ◌&&◌, ◌||◌, not, Bool, true, false, cond, eqb, List, []}
-use Rattle.std.proofs.Common.{◌∷◌, length, None, refl, sym}
-use Rattle.std.proofs.Common.{ap, ◌∙◌, subst, inl, inr, arith, eq-eqb}
+use Rattle.std.proofs.Common.{◌≡◌, ◌≢◌, ℕ, ◌+◌, ◌<◌, ◌≤◌, ◌&&◌, ◌||◌, not, Bool, true, false, cond, eqb, List, [], ◌∷◌, length, None, refl, sym, ap, ◌∙◌}
+use Rattle.std.proofs.Common.{subst, inl, inr, arith, eq-eqb, ne_eqb, true≢false}
 use Rattle.std.specs.List.{list_all}
-use Rattle.std.proofs.lemmas.Bool.{cases_eq, ne_eqb, and_from, and_parts, or_right, false≢true, true≢false, false_from_ne_true}
+use Rattle.std.proofs.lemmas.Bool.{cases_eq, and_from, and_parts, or_right, false≢true, false_from_ne_true}
 use Rattle.sg_sums.specs.Sums.{sum_below}
 use Rattle.sg_sums.proofs.SumLaws.{sum_below-add, sum_below-same, sum_below-le, sum_below-zero, sum_below_pick, sum_by_is_sum_below}
 use Rattle.sg_arena.specs.Family.{Family, node_at, leaves_of, dual_of, has_leaf, holds, Holds, Covers, share, total_of, IsFamily}

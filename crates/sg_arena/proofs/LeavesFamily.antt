@@ -1,7 +1,6 @@
 -- The family of leaves alone, as `open` makes it.
-use Rattle.std.proofs.Common.{IsSome, List, Some, [], ap, arith, eq-eqb, eqb, get_or, inl, inr, length, refl, subst, suc, sym, zero, ℕ}
-use Rattle.std.proofs.Common.{◌%◌, ◌<◌, ◌∙◌, ◌∷◌, ◌≡◌}
-use Rattle.std.proofs.lemmas.Bool.{eqb-true}
+use Rattle.std.proofs.Common.{IsSome, List, Some, [], ap, arith, eq-eqb, eqb, get_or, inl, inr, length, refl, subst, suc, sym, zero, ℕ, ◌%◌, ◌<◌, ◌∙◌, ◌∷◌}
+use Rattle.std.proofs.Common.{◌≡◌, eqb-true}
 use Rattle.std.specs.List.{range_with_len}
 use Rattle.std.specs.Option.{option_map_or}
 use Rattle.sg_arena.specs.Changes.{OnlyLeaves}

@@ -1,7 +1,6 @@
 -- How many sets a family has: twice their number is at most three times the number of leaves.
-use Rattle.std.proofs.Common.{◌≡◌, ℕ, ◌+◌, ◌*◌, ◌<◌, ◌≤◌, cond, ltb, length, is_some, sym}
-use Rattle.std.proofs.Common.{ap, ◌∙◌, subst, inl, inr, arith}
-use Rattle.std.proofs.lemmas.Bool.{cases_lt, lt-ltb, le-ltb}
+use Rattle.std.proofs.Common.{◌≡◌, ℕ, ◌+◌, ◌*◌, ◌<◌, ◌≤◌, cond, ltb, length, is_some, sym, ap, ◌∙◌, subst, inl, inr, arith, lt-ltb, le-ltb}
+use Rattle.std.proofs.lemmas.Bool.{cases_lt}
 use Rattle.sg_sums.specs.Sums.{sum_below}
 use Rattle.sg_sums.proofs.SumLaws.{sum_below-add, sum_below-le, sum_below-same}
 use Rattle.sg_sums.proofs.Tallies.{below_exchange, cond_small, sum_below_times, sum_below_unique, times, times_at_most, times_once, times_place, times_some, times_total}

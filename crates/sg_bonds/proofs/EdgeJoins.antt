@@ -1,10 +1,9 @@
 -- A least join without an edge, where the edge weighs whatever it may, is with the edge, or as it is, the least among the joins that have
 -- the edge, or that do not.
-use Rattle.std.proofs.Common.{inl, inr, ◌≡◌, ◌≢◌, ℕ, ◌+◌, ◌<◌, ◌≤◌, ℤ, pos, Bool, true, false, cond, ◌&&◌, eqb, List, refl, sym, ◌∙◌, ap, ap₂, arith}
-use Rattle.std.proofs.Common.{set, sum_by}
-use Rattle.std.specs.Prelude.{unsigned_abs}
-use Rattle.std.proofs.lemmas.Bool.{cases_eq, eq-eqb, eqb-true, false≢true}
-use Rattle.std.proofs.lemmas.List.{get_or-set_other, get_or-set_same, length-set, set-get_or, set-set}
+use Rattle.std.proofs.Common.{inl, inr, ◌≡◌, ◌≢◌, ℕ, ◌+◌, ◌<◌, ◌≤◌, ℤ, pos, Bool, true, false, cond, ◌&&◌, eqb, List, refl, sym, ◌∙◌, ap, ap₂, arith, set}
+use Rattle.std.proofs.Common.{sum_by, unsigned_abs, eq-eqb, eqb-true, get_or-set_other, get_or-set_same, length-set, set-set}
+use Rattle.std.proofs.lemmas.Bool.{cases_eq, false≢true}
+use Rattle.std.proofs.lemmas.List.{set-get_or}
 use Rattle.std.proofs.lemmas.List.Sums.{sum_by-set}
 use Rattle.sg_sums.specs.Parity.{xor, parity_below}
 use Rattle.sg_sums.specs.Sets.{chosen_below, holds}

@@ -1,6 +1,5 @@
 -- Spins that break a least join among those that have a bond, or do not, are least among those with their product at the bond.
-use Rattle.std.proofs.Common.{◌≡◌, ℕ, ◌<◌, ◌≤◌, ℤ, Bool, List, Option, None, Some, Result, Ok, Err, refl, sym, ◌∙◌, ap, arith}
-use Rattle.std.specs.Prelude.{IfOk, IfSome}
+use Rattle.std.proofs.Common.{◌≡◌, ℕ, ◌<◌, ◌≤◌, ℤ, Bool, List, Option, None, Some, Result, Ok, Err, refl, sym, ◌∙◌, ap, arith, IfOk, IfSome}
 use Rattle.std.proofs.lemmas.Int.{ints}
 use Rattle.sg_limits.specs.Limits.{forced_limit}
 use Rattle.sg_sums.specs.Sets.{holds}

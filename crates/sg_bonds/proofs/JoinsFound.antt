@@ -1,10 +1,9 @@
 -- What the calls for joins with an edge mark and weigh.
-use Rattle.std.proofs.Common.{◌≡◌, ℕ, ◌^◌, ◌<◌, ◌≤◌, pos, ◌≤ℤ◌, Bool, true, false, cond, ◌&&◌, eqb, List, length, set, sym, ◌∙◌, ap, ap₂, subst, arith, All, to_z, w64}
-use Rattle.std.specs.Prelude.{FitsSigned}
+use Rattle.std.proofs.Common.{◌≡◌, ℕ, ◌^◌, ◌<◌, ◌≤◌, pos, ◌≤ℤ◌, Bool, true, false, cond, ◌&&◌, eqb, List, length, set, sym, ◌∙◌, ap, ap₂, subst, arith, All}
+use Rattle.std.proofs.Common.{to_z, w64, FitsSigned, get_or-set_other, get_or-set_same, length-set}
 use Rattle.std.specs.List.Sorted.{IsStrictlyIncreasing}
 use Rattle.std.proofs.lemmas.Bool.{cases_eq}
 use Rattle.std.proofs.lemmas.Int.{fits_signed_from_abs, ints, to_z_pos}
-use Rattle.std.proofs.lemmas.List.{get_or-set_other, get_or-set_same, length-set}
 use Rattle.sg_limits.specs.Limits.{forced_limit}
 use Rattle.sg_sums.specs.Ends.{is_end}
 use Rattle.sg_sums.specs.Parity.{parity_by, xor}

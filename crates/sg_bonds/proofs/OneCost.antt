@@ -1,6 +1,5 @@
 -- A bond has one cost, and a spin one cluster.
-use Rattle.std.proofs.Common.{◌≡◌, ◌<◌, ℕ, ℤ, pos, negsuc, ◌-ℤ◌, Bool, true, List, [], ◌∷◌, get_or, sym, ap₂, ◌∙◌, arith}
-use Rattle.std.specs.Prelude.{unsigned_abs}
+use Rattle.std.proofs.Common.{◌≡◌, ◌<◌, ℕ, ℤ, pos, negsuc, ◌-ℤ◌, Bool, true, List, [], ◌∷◌, get_or, sym, ap₂, ◌∙◌, arith, unsigned_abs}
 use Rattle.std.proofs.lemmas.List.{get_or_default, same_lists}
 use Rattle.sg_model.specs.Ising.{Ising, bond_count}
 use Rattle.sg_model.specs.Connected.{IsWalk, Reached}

@@ -1,9 +1,8 @@
 -- What is told of the bonds stays true: one more bond is told, bonds that were weakened are rigid, or another ground state frees
 -- those that it turns.
-use Rattle.std.proofs.Common.{◌≡◌, ◌⊎◌, ◌↔◌, inl, inr, ℕ, ◌+◌, ◌<◌, ◌≤◌, Bool, true, false, ℤ, pos, ◌≤ℤ◌, List}
-use Rattle.std.proofs.Common.{[], ◌∷◌, ◌++◌, sym, ◌∙◌, subst, arith, length, set}
+use Rattle.std.proofs.Common.{◌≡◌, ◌⊎◌, ◌↔◌, inl, inr, ℕ, ◌+◌, ◌<◌, ◌≤◌, Bool, true, false, ℤ, pos, ◌≤ℤ◌, List, [], ◌∷◌, ◌++◌, sym, ◌∙◌, subst, arith, length}
+use Rattle.std.proofs.Common.{set, length-set}
 use Rattle.std.proofs.lemmas.Int.{ints}
-use Rattle.std.proofs.lemmas.List.{length-set}
 use Rattle.sg_model.specs.Ising.{Ising, bond_count}
 use Rattle.sg_walk.specs.Walk.{has}
 use Rattle.sg_bonds.specs.Cost.{IsCost, IsRigid}

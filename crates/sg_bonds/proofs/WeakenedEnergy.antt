@@ -1,13 +1,11 @@
 -- The law of weakened ground states: what is taken from the couplings bounds energies from below.
-use Rattle.std.proofs.Common.{◌≡◌, inl, inr, ℕ, zero, suc, ◌+◌, ◌*◌, ◌<◌, ◌≤◌, false, cond, ℤ, pos, negsuc, neg_ℤ}
-use Rattle.std.proofs.Common.{◌+ℤ◌, ◌-ℤ◌, ◌*ℤ◌, ◌≤ℤ◌, ◌<ℤ◌, List, take, map, fold, refl, sym, ◌∙◌, ap, subst, arith}
-use Rattle.std.specs.Ordering.{int_eq}
+use Rattle.std.proofs.Common.{◌≡◌, inl, inr, ℕ, zero, suc, ◌+◌, ◌*◌, ◌<◌, ◌≤◌, false, cond, ℤ, pos, negsuc, neg_ℤ, ◌+ℤ◌, ◌-ℤ◌, ◌*ℤ◌, ◌≤ℤ◌, ◌<ℤ◌, List, take}
+use Rattle.std.proofs.Common.{map, fold, refl, sym, ◌∙◌, ap, subst, arith, int_eq, unsigned_abs, take_all}
 use Rattle.std.specs.List.{range_with_len}
-use Rattle.std.specs.Prelude.{unsigned_abs}
 use Rattle.std.proofs.Math.IntN.{*ℤ-zero, suc_ℤ-*ℤ, zero-*ℤ}
 use Rattle.std.proofs.lemmas.Bool.Decides.{Decides-int_eq}
 use Rattle.std.proofs.lemmas.Int.{by_lt_z, ints, unsigned_abs-mul}
-use Rattle.std.proofs.lemmas.List.{take_all, take_more}
+use Rattle.std.proofs.lemmas.List.{take_more}
 use Rattle.std.proofs.lemmas.List.FromFn.{get_or-map-range_with_len}
 use Rattle.std.proofs.lemmas.List.Sums.{fold_push}
 use Rattle.sg_limits.specs.Limits.{sum_limit}

@@ -1,7 +1,6 @@
 -- From the tests of the numbers of a general graph to the draft that they are.
-use Rattle.std.proofs.Common.{◌≡◌, ℕ, ℤ, [], pos, Option, None, Some, List, All, ap, length, ◌∙◌, refl}
+use Rattle.std.proofs.Common.{◌≡◌, ℕ, ℤ, [], pos, Option, None, Some, List, All, ap, length, ◌∙◌, refl, find, not}
 use Rattle.std.proofs.lemmas.List.FromFn.{length-map-range_with_len}
-use Rattle.std.specs.Prelude.{find, not}
 use Rattle.std.specs.List.{range_with_len}
 use Rattle.sg_model.specs.declared.refusal.Refusal.{Refusal}
 use Rattle.sg_draft.specs.declared.limits.Limits.{Limits}

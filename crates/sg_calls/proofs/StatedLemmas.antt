@@ -1,6 +1,5 @@
 -- The tests of the numbers that state a proof.
-use Rattle.std.proofs.Common.{◌≡◌, ℕ, ◌+◌, ◌<◌, ◌≤◌, ℤ, pos, None, Some, List, [], ◌∷◌, ◌++◌, get_or, length, map, take, refl, ap, sym, ◌∙◌}
-use Rattle.std.proofs.lemmas.Bool.{le-ltb}
+use Rattle.std.proofs.Common.{◌≡◌, ℕ, ◌+◌, ◌<◌, ◌≤◌, ℤ, pos, None, Some, List, [], ◌∷◌, ◌++◌, get_or, length, map, take, refl, ap, sym, ◌∙◌, le-ltb}
 use Rattle.std.proofs.lemmas.List.{map-append, take_more}
 use Rattle.sg_check.specs.declared.packing.Loop.{Loop}
 use Rattle.sg_limits.specs.Limits.{input_limit}

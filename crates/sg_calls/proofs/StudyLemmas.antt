@@ -1,7 +1,6 @@
 -- Why a study has no answer: a solver's error, and which graphs may have tables that exceed what is allowed.
-use Rattle.std.proofs.Common.{inl, inr, ◌≡◌, ◌⊎◌, ℕ, ◌<◌, ◌≤◌, None, Some, Option, [], length, refl, ap, ◌∙◌, arith}
+use Rattle.std.proofs.Common.{inl, inr, ◌≡◌, ◌⊎◌, ℕ, ◌<◌, ◌≤◌, None, Some, Option, [], length, refl, ap, ◌∙◌, arith, length-set}
 use Rattle.std.proofs.lemmas.Bool.{cases_lt}
-use Rattle.std.proofs.lemmas.List.{length-set}
 use Rattle.std.proofs.lemmas.List.FromFn.{length-map-range_with_len}
 use Rattle.sg_limits.specs.Limits.{bond_limit, spin_limit, table_limit}
 use Rattle.sg_model.specs.Changes.{flipped_at, recoupled, with_coupling, with_seam_flipped}

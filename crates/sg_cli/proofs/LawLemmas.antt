@@ -1,6 +1,5 @@
 -- The four laws, pushed one by one.
-use Rattle.std.proofs.Common.{◌≡◌, pos, List, [], ◌∷◌, ◌++◌, ap, ◌∙◌, map}
-use Rattle.std.specs.Prelude.{codes, replicate}
+use Rattle.std.proofs.Common.{◌≡◌, pos, List, [], ◌∷◌, ◌++◌, ap, ◌∙◌, map, codes, replicate}
 use Rattle.sg_laws.specs.Named.{Law}
 use Rattle.sg_laws.specs.Stream.{alternating, drawn, seeded_generator, level_of, sign_of}
 use Rattle.sg_cli.specs.Laws.{AreLaws, IsLaw}

@@ -1,9 +1,8 @@
 -- From the parts of a draft that pass their tests to the draft and its instance.
-use Rattle.std.proofs.Common.{◌≡◌, ℕ, [], pos, Bool, true, false, List, length, get_or, Option, Some, None, refl, sym, ap, ◌∙◌, arith, All, inr, subst, Result, Ok, Err}
-use Rattle.std.specs.Prelude.{◌&&◌}
+use Rattle.std.proofs.Common.{◌≡◌, ℕ, [], pos, Bool, true, false, List, length, get_or, Option, Some, None, refl, sym, ap, ◌∙◌, arith, All, inr, subst, Result}
+use Rattle.std.proofs.Common.{Ok, Err, ◌&&◌, IfOk, eq-eqb, ltb-true}
 use Rattle.std.specs.Option.{option_or}
-use Rattle.std.specs.Result.{IfOk}
-use Rattle.std.proofs.lemmas.Bool.{eq-eqb, false≢true, ltb-true}
+use Rattle.std.proofs.lemmas.Bool.{false≢true}
 use Rattle.std.proofs.lemmas.List.Elements.{All-from_get_or, All-get_or}
 use Rattle.std.proofs.lemmas.Option.{none-some}
 use Rattle.sg_model.specs.declared.bond.Bond.{Bond}

@@ -1,6 +1,5 @@
 -- The dual is a web: what its edges are, and what each web keeps.
-use Rattle.std.proofs.Common.{inl, inr, pos, ◌≡◌, ℕ, ◌+◌, ◌*◌, ◌<◌, ◌≤◌, ◌^◌, map, get_or, All, List, [], ◌∷◌, ◌++◌, ap₂, ℤ, sym, ◌∙◌, ap, arith}
-use Rattle.std.specs.Prelude.{unsigned_abs}
+use Rattle.std.proofs.Common.{inl, inr, pos, ◌≡◌, ℕ, ◌+◌, ◌*◌, ◌<◌, ◌≤◌, ◌^◌, map, get_or, All, List, [], ◌∷◌, ◌++◌, ap₂, ℤ, sym, ◌∙◌, ap, arith, unsigned_abs}
 use Rattle.std.specs.List.{range_with_len}
 use Rattle.std.proofs.lemmas.List.FromFn.{length-map-range_with_len, get_or-map-range_with_len, map-range_with_len_more, length-range_with_len, get_or-range_with_len}
 use Rattle.std.proofs.lemmas.List.Elements.{All-map}

@@ -1,6 +1,5 @@
 -- Other couplings on the same bonds leave the faces and Euler's number as they are.
-use Rattle.std.proofs.Common.{ap₂, ◌≡◌, ℕ, ℤ, ◌+◌, ◌-◌, ◌*◌, ◌<◌, ◌≤◌, pos, List, sym, ◌∙◌, ap, arith, length, get_or}
-use Rattle.std.specs.Prelude.{◌-ℤ◌}
+use Rattle.std.proofs.Common.{ap₂, ◌≡◌, ℕ, ℤ, ◌+◌, ◌-◌, ◌*◌, ◌<◌, ◌≤◌, pos, List, sym, ◌∙◌, ap, arith, length, get_or, ◌-ℤ◌}
 use Rattle.sg_model.specs.declared.bond.Bond.{Bond}
 use Rattle.sg_model.specs.Ising.{Ising}
 use Rattle.sg_model.specs.Rotation.{dart_count, darts_of, following, next, rev}

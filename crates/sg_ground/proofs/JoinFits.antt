@@ -1,7 +1,6 @@
 -- A join of the frustrated faces has on each face as many bonds as negative ones, up to an even number; and where just its bonds
 -- are broken, the broken bonds weigh what it weighs.
-use Rattle.std.proofs.Common.{◌≡◌, ℕ, ◌%◌, ◌<◌, pos, Bool, ◌&&◌, cond, List, sym, ◌∙◌, ap, subst, arith, get_or, sum_by, All}
-use Rattle.std.specs.Prelude.{ℤ, unsigned_abs}
+use Rattle.std.proofs.Common.{◌≡◌, ℕ, ◌%◌, ◌<◌, pos, Bool, ◌&&◌, cond, List, sym, ◌∙◌, ap, subst, arith, get_or, sum_by, All, ℤ, unsigned_abs}
 use Rattle.sg_sums.specs.Parity.{odd}
 use Rattle.sg_sums.specs.Sets.{holds}
 use Rattle.sg_sums.specs.Ends.{is_end}

@@ -1,6 +1,5 @@
 -- A packing of odd cuts of the dual is a packing of frustrated loops of the instance, and its loops are few.
-use Rattle.std.proofs.Common.{inl, inr, ◌≡◌, ◌*◌, ◌<◌, ◌≤◌, pos, cond, List, [], map, ap, arith, sum_by, length, get_or}
-use Rattle.std.specs.Prelude.{unsigned_abs, ◌≤ℤ◌}
+use Rattle.std.proofs.Common.{inl, inr, ◌≡◌, ◌*◌, ◌<◌, ◌≤◌, pos, cond, List, [], map, ap, arith, sum_by, length, get_or, unsigned_abs, ◌≤ℤ◌}
 use Rattle.std.proofs.lemmas.Bool.{cases_eq}
 use Rattle.std.proofs.lemmas.List.{length-map}
 use Rattle.std.proofs.lemmas.List.Elements.{All-map, All-weaker}

@@ -1,9 +1,8 @@
 -- What a share gives to the whole: its spins break the same bonds, and its loops are loops of the whole.
-use Rattle.std.proofs.Common.{inl, inr, ◌≡◌, ◌≢◌, ℕ, ◌+◌, ◌*◌, ◌%◌, ◌<◌, ◌≤◌, ◌||◌, ℤ, pos, ◌*ℤ◌, Bool}
-use Rattle.std.proofs.Common.{false, cond, eqb, List, map, refl, sym, ◌∙◌, ap, ap₂, subst, arith, sum_by, count_by, length, get_or, All, eq-eqb}
-use Rattle.std.specs.Prelude.{unsigned_abs}
+use Rattle.std.proofs.Common.{inl, inr, ◌≡◌, ◌≢◌, ℕ, ◌+◌, ◌*◌, ◌%◌, ◌<◌, ◌≤◌, ◌||◌, ℤ, pos, ◌*ℤ◌, Bool, false, cond, eqb, List, map, refl, sym, ◌∙◌, ap, ap₂}
+use Rattle.std.proofs.Common.{subst, arith, sum_by, count_by, length, get_or, All, eq-eqb, unsigned_abs, ne_eqb}
 use Rattle.std.specs.List.Sorted.{IsStrictlyIncreasing}
-use Rattle.std.proofs.lemmas.Bool.{cases_eq, cases_lt, ne_eqb}
+use Rattle.std.proofs.lemmas.Bool.{cases_eq, cases_lt}
 use Rattle.std.proofs.lemmas.List.{get_or-map, length-map}
 use Rattle.std.proofs.lemmas.List.Elements.{All-from_get_or, All-map, All-weaker}
 use Rattle.sg_sums.specs.Sums.{sum_below}

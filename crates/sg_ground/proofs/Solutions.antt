@@ -1,8 +1,7 @@
 -- What a least join of the frustrated faces gives: spins that break exactly its bonds are a ground state, and the odd cuts that prove the
 -- join are the loops that prove it.
-use Rattle.std.proofs.Common.{inl, inr, ◌≡◌, ℕ, ◌*◌, ◌<◌, ◌≤◌, ◌^◌, pos, ℤ, ◌+ℤ◌, ◌-ℤ◌, true, List, map, Result, Ok, Err, IfOk}
-use Rattle.std.proofs.Common.{sym, ◌∙◌, ap, arith, sum_by, to_z, of_z, w64}
-use Rattle.std.specs.Prelude.{FitsSigned, unsigned_abs}
+use Rattle.std.proofs.Common.{inl, inr, ◌≡◌, ℕ, ◌*◌, ◌<◌, ◌≤◌, ◌^◌, pos, ℤ, ◌+ℤ◌, ◌-ℤ◌, true, List, map, Result, Ok, Err, IfOk, sym, ◌∙◌, ap, arith, sum_by}
+use Rattle.std.proofs.Common.{to_z, of_z, w64, FitsSigned, unsigned_abs}
 use Rattle.std.specs.Int.{w128}
 use Rattle.std.proofs.lemmas.Bool.{cases_eq}
 use Rattle.std.proofs.lemmas.Int.{fits_signed_from_abs, ints, to_z-of_z}

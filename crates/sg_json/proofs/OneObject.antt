@@ -1,7 +1,6 @@
 -- A JSON text gives one instance at most or has one refusal at most, and never both.
-use Rattle.std.proofs.Common.{◌≡◌, true, false, List, Some, ℕ, sym, ap, subst, ◌∙◌, arith}
+use Rattle.std.proofs.Common.{◌≡◌, true, false, List, Some, ℕ, sym, ap, subst, ◌∙◌, arith, true≢false}
 use Rattle.std.specs.List.{list_all}
-use Rattle.std.proofs.lemmas.Bool.{true≢false}
 use Rattle.std.proofs.lemmas.Option.{none-some, same_Some}
 use Rattle.serde_json.specs.Data.{Data}
 use Rattle.sg_model.specs.declared.refusal.Refusal.{Refusal}

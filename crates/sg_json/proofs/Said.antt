@@ -1,8 +1,7 @@
 -- From the members of a JSON text to their draft.
-use Rattle.std.proofs.Common.{◌≡◌, ℕ, ◌≤◌, Bool, true, false, ℤ, List, [], map, length, Option, Some, None, refl, sym, ap, ◌∙◌, codes, cond}
-use Rattle.std.specs.Prelude.{◌==◌, option_map, unwrap_or}
+use Rattle.std.proofs.Common.{◌≡◌, ℕ, ◌≤◌, Bool, true, false, ℤ, List, [], map, length, Option, Some, None, refl, sym, ap, ◌∙◌, codes, cond, ◌==◌, option_map}
+use Rattle.std.proofs.Common.{unwrap_or, eqb-true}
 use Rattle.std.specs.List.{list_all}
-use Rattle.std.proofs.lemmas.Bool.{eqb-true}
 use Rattle.std.proofs.lemmas.List.{length-map}
 use Rattle.std.proofs.lemmas.Option.{none-some}
 use Rattle.serde_json.specs.Data.{Data}

@@ -1,6 +1,5 @@
 -- The first law with a name, over boxes and over the records that stand for them.
-use Rattle.std.proofs.Common.{◌≡◌, ℕ, List, [], ◌∷◌, ap, ◌∙◌, refl, Option, Some, option_map, find, map, true, false, Bool, cond}
-use Rattle.std.specs.Str.{bytes_eq}
+use Rattle.std.proofs.Common.{◌≡◌, ℕ, List, [], ◌∷◌, ap, ◌∙◌, refl, Option, Some, option_map, find, map, true, false, Bool, cond, bytes_eq}
 use Rattle.sg_laws.specs.Named.{Law, first_named}
 
 -- a map goes into both cases

@@ -1,8 +1,7 @@
 -- The tree edges of a new blossom go, one after another.
-use Rattle.std.proofs.Common.{◌≡◌, ℕ, true, false, not, List, [], ◌∷◌, ◌++◌, map, refl, ap, ◌∙◌}
-use Rattle.std.proofs.lemmas.List.{append-nil, map-append}
+use Rattle.std.proofs.Common.{◌≡◌, ℕ, true, false, not, List, [], ◌∷◌, ◌++◌, map, refl, ap, ◌∙◌, append-nil, filter}
+use Rattle.std.proofs.lemmas.List.{map-append}
 use Rattle.std.proofs.lemmas.List.Elements.{filter-append}
-use Rattle.std.specs.Prelude.{filter}
 use Rattle.sg_arena.specs.Family.{Family, holds}
 use Rattle.sg_match.specs.ShrunkTree.{renamed_edge, shrunk_edges}
 use Rattle.sg_match.specs.declared.TreeEdge.{TreeEdge}

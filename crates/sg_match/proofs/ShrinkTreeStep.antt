@@ -1,9 +1,8 @@
 -- The tree after the tree edges of a new blossom are gone.
-use Rattle.std.proofs.Common.{◌≡◌, ◌≢◌, ◌⊎◌, ℕ, zero, suc, ◌<◌, ◌≤◌, ◌%◌, cond, List, [], ◌∷◌, ◌++◌, length, get_or, set, take, Option, Some, None}
-use Rattle.std.proofs.Common.{Contains, refl, sym, ap, ◌∙◌, subst, inl, inr, arith}
+use Rattle.std.proofs.Common.{◌≡◌, ◌≢◌, ◌⊎◌, ℕ, zero, suc, ◌<◌, ◌≤◌, ◌%◌, cond, List, [], ◌∷◌, ◌++◌, length, get_or, set, take, Option, Some, None, Contains}
+use Rattle.std.proofs.Common.{refl, sym, ap, ◌∙◌, subst, inl, inr, arith, get_or-set_other, get_or-set_same, take_all}
 use Rattle.std.proofs.lemmas.Option.{none-some, same_Some}
 use Rattle.std.proofs.lemmas.Bool.{cases_Bool, cases_eq, false≢true}
-use Rattle.std.proofs.lemmas.List.{get_or-set_other, get_or-set_same, take_all}
 use Rattle.std.proofs.Math.Seq.{take-suc}
 use Rattle.sg_arena.proofs.FamilyLemmas.{some_leaf, top-apart}
 use Rattle.sg_arena.proofs.ShrunkFamily.{IsFamily-shrink, IsTop-shrink, IsTop-shrink_other, duals_between-shrink, holds_other, in_new, new_holds}

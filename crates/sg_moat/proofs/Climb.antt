@@ -1,6 +1,5 @@
 -- Up from a leaf's own node through the sets that hold it, until a name is found or a top is reached.
-use Rattle.std.proofs.Common.{◌≡◌, ◌≢◌, ℕ, ◌+◌, ◌-◌, ◌^◌, ◌<◌, ◌≤◌, false, length}
-use Rattle.std.proofs.Common.{get_or, sym, subst, inl, inr, arith}
+use Rattle.std.proofs.Common.{◌≡◌, ◌≢◌, ℕ, ◌+◌, ◌-◌, ◌^◌, ◌<◌, ◌≤◌, false, length, get_or, sym, subst, inl, inr, arith}
 use Rattle.std.proofs.lemmas.Bool.{cases_eq, false_from_ne_true}
 use Rattle.sg_arena.specs.Family.{Family, leaf_count, leaves_of, dual_of, holds, Holds, Covers, IsTop, IsChildAt, IsFamily}
 use Rattle.sg_arena.proofs.FamilyLemmas.{alive_from_holds, child-covered, leaf-held}

@@ -1,8 +1,6 @@
 -- The depths at a set as its leaves lower them one by one, and the cuts of one set more.
-use Rattle.std.proofs.Common.{◌≡◌, ℕ, ◌+◌, ◌^◌, ◌<◌, ◌≤◌, min, fold, true, false, cond, List}
-use Rattle.std.proofs.Common.{length, sym, subst, arith, All}
+use Rattle.std.proofs.Common.{◌≡◌, ℕ, ◌+◌, ◌^◌, ◌<◌, ◌≤◌, min, fold, true, false, cond, List, length, sym, subst, arith, All, length-append}
 use Rattle.std.proofs.lemmas.Bool.{cases_lt, false≢true}
-use Rattle.std.proofs.lemmas.List.{length-append}
 use Rattle.std.proofs.lemmas.List.Elements.{All-append, All-from_get_or, All-weaker}
 use Rattle.std.proofs.lemmas.List.Sums.{fold-append, sum_by-append}
 use Rattle.sg_sums.specs.Sets.{chosen_below, holds as has_edge}

@@ -1,6 +1,5 @@
 -- A bond is broken where either it is negative or its ends differ, and not both; and bounds on the weight of all bonds.
-use Rattle.std.proofs.Common.{◌≡◌, ◌*◌, ◌≤◌, ◌^◌, ℤ, pos, Bool, List, arith, length}
-use Rattle.std.specs.Prelude.{int_lt, unsigned_abs}
+use Rattle.std.proofs.Common.{◌≡◌, ◌*◌, ◌≤◌, ◌^◌, ℤ, pos, Bool, List, arith, length, int_lt, unsigned_abs}
 use Rattle.std.proofs.lemmas.List.Elements.{All-weaker}
 use Rattle.std.proofs.lemmas.List.Sums.{sum_by-le}
 use Rattle.sg_sums.specs.Parity.{xor}

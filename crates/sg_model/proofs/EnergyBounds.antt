@@ -1,6 +1,5 @@
 -- An energy is at most the weight of all bonds in size; and the energy of a ground state is the least.
-use Rattle.std.proofs.Common.{◌≡◌, ℕ, ◌*◌, ◌≤◌, ℤ, pos, ◌-ℤ◌, List, arith, sum_by}
-use Rattle.std.specs.Prelude.{unsigned_abs}
+use Rattle.std.proofs.Common.{◌≡◌, ℕ, ◌*◌, ◌≤◌, ℤ, pos, ◌-ℤ◌, List, arith, sum_by, unsigned_abs}
 use Rattle.std.proofs.lemmas.Int.{ints}
 use Rattle.sg_sums.proofs.SumLaws.{sum_by-le-all}
 use Rattle.sg_model.specs.declared.bond.Bond.{Bond}

@@ -1,6 +1,5 @@
 -- What the marks on the darts and bonds say of the rotation and the seam.
-use Rattle.std.proofs.Common.{◌≡◌, ◌⊎◌, inl, inr, ℕ, ◌<◌, ◌≤◌, Bool, true, cond, eqb, List, length, get_or, sym, ◌∙◌, subst, count_by, arith}
-use Rattle.std.proofs.lemmas.Bool.{ltb-true}
+use Rattle.std.proofs.Common.{◌≡◌, ◌⊎◌, inl, inr, ℕ, ◌<◌, ◌≤◌, Bool, true, cond, eqb, List, length, get_or, sym, ◌∙◌, subst, count_by, arith, ltb-true}
 use Rattle.std.proofs.lemmas.List.Elements.{All-from_get_or}
 use Rattle.sg_model.specs.Ising.{Ising, bond_count}
 use Rattle.sg_model.specs.Rotation.{IsRotation, darts_of, is_dart_of}

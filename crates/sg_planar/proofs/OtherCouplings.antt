@@ -1,12 +1,11 @@
 -- Other couplings on the same bonds leave an instance planar, while their sum stays bounded.
 use Rattle.std.proofs.Common.{◌≡◌, ℕ, ℤ, ◌+◌, ◌^◌, ◌<◌, ◌≤◌, pos, List, map, length, refl, sym, ◌∙◌, ap, subst, arith, get_or, set, sum_by, All}
+use Rattle.std.proofs.Common.{get_or-set_same, length-set, unsigned_abs}
 use Rattle.std.proofs.lemmas.Int.{ints}
-use Rattle.std.proofs.lemmas.List.{get_or-set_same, length-set}
 use Rattle.std.proofs.lemmas.List.Elements.{All-from_get_or}
 use Rattle.std.proofs.lemmas.List.FromFn.{get_or-map-range_with_len, length-map-range_with_len}
 use Rattle.std.proofs.lemmas.List.Sums.{get_or-le-sum_by, sum_by-set}
 use Rattle.std.specs.List.{range_with_len}
-use Rattle.std.specs.Prelude.{unsigned_abs}
 use Rattle.sg_faces.proofs.SameFaces.{is_euler_same, faces_same}
 use Rattle.sg_limits.specs.Limits.{forced_limit}
 use Rattle.sg_model.proofs.Recoupled.{coupled_at_place, couplings_ends, flipped_ends, negated_ends, coupling_ends}

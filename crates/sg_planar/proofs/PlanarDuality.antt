@@ -1,7 +1,6 @@
 -- Planar duality: in a connected embedding the bonds outside a spanning tree connect the faces, so that Euler's number is
 -- at most 2; where it is 2, a set of bonds that is even on each face is a cut of the spins.
-use Rattle.std.proofs.Common.{ap₂, ◌≡◌, ℕ, zero, suc, ◌+◌, ◌*◌, ◌<◌, ◌≤◌, Bool, false, ◌&&◌, eqb, ◌++◌, refl, sym, ◌∙◌, ap, arith, All, length}
-use Rattle.std.proofs.lemmas.List.{length-append}
+use Rattle.std.proofs.Common.{ap₂, ◌≡◌, ℕ, zero, suc, ◌+◌, ◌*◌, ◌<◌, ◌≤◌, Bool, false, ◌&&◌, eqb, ◌++◌, refl, sym, ◌∙◌, ap, arith, All, length, length-append}
 use Rattle.std.proofs.lemmas.List.FromFn.{length-range_with_len}
 use Rattle.std.proofs.lemmas.List.Sorted.{length_permutation}
 use Rattle.sg_sums.specs.Parity.{xor, parity_below}

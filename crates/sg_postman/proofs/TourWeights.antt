@@ -1,6 +1,5 @@
 -- The weight of a tour is a sum that fits 64 bits.
-use Rattle.std.proofs.Common.{◌≡◌, ◌∙◌, sym, ap, ap₂, subst, ℕ, ◌+◌, ◌≤◌, ◌^◌, ℤ, ◌+ℤ◌, pos, to_z, of_z, w64, arith}
-use Rattle.std.specs.Prelude.{FitsSigned}
+use Rattle.std.proofs.Common.{◌≡◌, ◌∙◌, sym, ap, ap₂, subst, ℕ, ◌+◌, ◌≤◌, ◌^◌, ℤ, ◌+ℤ◌, pos, to_z, of_z, w64, arith, FitsSigned}
 use Rattle.std.proofs.lemmas.Int.{fits_signed_from_abs, to_z-of_z}
 
 module _ (m n : ℕ) (a b : ℤ) (first : a ≡ pos m) (second : b ≡ pos n) (small : m + n ≤ 2 ^ 60) where

@@ -1,8 +1,7 @@
 -- Cuts as energies.
-use Rattle.std.proofs.Common.{◌≡◌, ◌+◌, ◌*◌, ◌≤◌, ℤ, pos, neg_ℤ, ◌+ℤ◌, ◌-ℤ◌, ◌*ℤ◌, cond, not, List, [], ◌∷◌, map, fold, refl, sym, ◌∙◌, ap, subst, arith, All, sum_by, to_z, of_z, w64, ◌^◌}
-use Rattle.std.specs.Prelude.{FitsSigned, unsigned_abs}
+use Rattle.std.proofs.Common.{◌≡◌, ◌+◌, ◌*◌, ◌≤◌, ℤ, pos, neg_ℤ, ◌+ℤ◌, ◌-ℤ◌, ◌*ℤ◌, cond, not, List, [], ◌∷◌, map, fold, refl, sym, ◌∙◌, ap, subst, arith, All}
+use Rattle.std.proofs.Common.{sum_by, to_z, of_z, w64, ◌^◌, FitsSigned, unsigned_abs, int_eq}
 use Rattle.std.specs.Int.{w128}
-use Rattle.std.specs.Ordering.{int_eq}
 use Rattle.std.proofs.lemmas.Int.{ints, fits_signed_from_abs, to_z-of_z}
 use Rattle.std.proofs.lemmas.List.Elements.{All-head, All-tail}
 use Rattle.std.proofs.lemmas.List.Sums.{sum_by-cons}

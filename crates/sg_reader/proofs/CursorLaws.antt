@@ -1,6 +1,5 @@
 -- What a read of a record does to what is left.
-use Rattle.std.proofs.Common.{◌≡◌, ℕ, ◌+◌, true, false, List, [], ◌∷◌, length, Option, Some, None, Bor, refl, ◌∙◌, inl}
-use Rattle.std.specs.Prelude.{IsSome}
+use Rattle.std.proofs.Common.{◌≡◌, ℕ, ◌+◌, true, false, List, [], ◌∷◌, length, Option, Some, None, Bor, refl, ◌∙◌, inl, IsSome}
 use Rattle.std.proofs.lemmas.Bool.{false≢true}
 use Rattle.csv.specs.Machine.{ends_at_end}
 use Rattle.csv.specs.Reading.{Reached, ReadRecord, default_config, is_flexible, records_from, reader_state, took_first}

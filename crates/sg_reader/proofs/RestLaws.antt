@@ -1,8 +1,6 @@
 -- What a reader leaves, and a reading that leaves nothing.
-use Rattle.std.proofs.Common.{◌≡◌, List, [], ◌∷◌, ◌++◌, refl, sym, ap, subst, ◌∙◌, append_assoc, append-nil, Ok, Err}
-use Rattle.std.specs.Prelude.{IfOk, IfErr, OnOk, MatchResult}
-use Rattle.std.specs.Result.{IsErrAnd}
-use Rattle.std.specs.declared.result.Result.{Result}
+use Rattle.std.proofs.Common.{◌≡◌, List, [], ◌∷◌, ◌++◌, refl, sym, ap, subst, ◌∙◌, append_assoc, append-nil, Ok, Err, IfOk, IfErr, OnOk, MatchResult, IsErrAnd}
+use Rattle.std.proofs.Common.{Result}
 use Rattle.std.proofs.lemmas.Result.{err_from_is_err_and}
 use Rattle.sg_model.specs.declared.refusal.Fault.{Fault}
 use Rattle.sg_model.specs.declared.refusal.Fault.TheVariants.{Refused, NoMemory}

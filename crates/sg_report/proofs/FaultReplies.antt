@@ -1,7 +1,6 @@
 -- The reply to a fault: where a line answers each refusal, it answers the fault.
-use Rattle.std.proofs.Common.{ℕ, List, Result}
+use Rattle.std.proofs.Common.{ℕ, List, Result, IfOk}
 use Rattle.std.proofs.lemmas.Result.{IfOk-weaker}
-use Rattle.std.specs.Result.{IfOk}
 use Rattle.sg_model.specs.declared.refusal.Fault.{Fault}
 use Rattle.sg_model.specs.declared.refusal.Fault.TheVariants.{NoMemory, Refused}
 use Rattle.sg_model.specs.declared.refusal.Refusal.{Refusal}

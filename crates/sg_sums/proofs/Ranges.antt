@@ -1,7 +1,6 @@
 -- Parities and sums over ranges of numbers, as over the numbers below a bound.
-use Rattle.std.proofs.Common.{◌≡◌, ℕ, zero, suc, ◌+◌, ◌*◌, Bool, false, ◌∷◌, [], ◌++◌, map, refl, sym, ◌∙◌, ap, ap₂, arith, sum_by}
+use Rattle.std.proofs.Common.{◌≡◌, ℕ, zero, suc, ◌+◌, ◌*◌, Bool, false, ◌∷◌, [], ◌++◌, map, refl, sym, ◌∙◌, ap, ap₂, arith, sum_by, map-id}
 use Rattle.std.specs.List.{range_with_len}
-use Rattle.std.proofs.lemmas.List.{map-id}
 use Rattle.std.proofs.lemmas.List.FromFn.{map-range_with_len_more, sum_by-map-range_with_len_more}
 use Rattle.sg_sums.specs.Parity.{xor, parity_by, parity_below}
 use Rattle.sg_sums.specs.Sums.{sum_below}

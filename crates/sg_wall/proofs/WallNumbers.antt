@@ -1,6 +1,5 @@
 -- The three numbers of a wall, from two least energies.
-use Rattle.std.proofs.Common.{◌≡◌, ℕ, ◌≤◌, ◌*◌, ℤ, ◌-ℤ◌, [], sym, ◌∙◌, ap, subst, to_z, of_z, w64, pos, arith}
-use Rattle.std.specs.Prelude.{FitsSigned, unsigned_abs}
+use Rattle.std.proofs.Common.{◌≡◌, ℕ, ◌≤◌, ◌*◌, ℤ, ◌-ℤ◌, [], sym, ◌∙◌, ap, subst, to_z, of_z, w64, pos, arith, FitsSigned, unsigned_abs}
 use Rattle.std.proofs.lemmas.Int.{ints, to_z-of_z, fits_signed_from_abs}
 use Rattle.sg_limits.specs.Limits.{forced_limit}
 use Rattle.sg_model.specs.Energy.{IsLeastEnergy, weight}

@@ -1,5 +1,4 @@
-use Rattle.std.proofs.Common.{get_or, pos, rules, w64}
-use Rattle.std.specs.Prelude.{FitsSigned}
+use Rattle.std.proofs.Common.{get_or, pos, rules, w64, FitsSigned}
 use Rattle.std.proofs.lemmas.Int.{to_z-of_z}
 use Rattle.sg_bonds.proofs.ClusterNames.{shows_more}
 use Rattle.sg_bonds.proofs.naming.rigid_set.Goals as goal

@@ -1,6 +1,5 @@
-use Rattle.std.proofs.Common.{◌≡◌, ◌<◌, ◌^◌, ◌*ℤ◌, ◌∙◌, ℤ, pos, ap, ap₂, arith, rules, to_z, of_z, w64}
+use Rattle.std.proofs.Common.{◌≡◌, ◌<◌, ◌^◌, ◌*ℤ◌, ◌∙◌, ℤ, pos, ap, ap₂, arith, rules, to_z, of_z, w64, FitsSigned, unsigned_abs}
 use Rattle.std.specs.Int.{w128}
-use Rattle.std.specs.Prelude.{FitsSigned, unsigned_abs}
 use Rattle.std.proofs.lemmas.Int.{fits_signed_from_abs, to_z-of_z, unsigned_abs-mul}
 use Rattle.sg_bonds.proofs.weaken.scaled.Goals as goal
 

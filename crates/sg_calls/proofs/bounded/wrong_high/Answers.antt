@@ -1,5 +1,4 @@
-use Rattle.std.proofs.Common.{arith, ◌≡◌, length}
-use Rattle.std.proofs.lemmas.Bool.{eq-eqb}
+use Rattle.std.proofs.Common.{arith, ◌≡◌, length, eq-eqb}
 use Rattle.sg_calls.proofs.bounded.wrong_high.Goals as goal
 
 pub returns-clause-value : goal.returns-clause-value

@@ -1,5 +1,4 @@
-use Rattle.std.proofs.Common.{◌≡◌, ◌∙◌, ◌*◌, arith, length, sym}
-use Rattle.std.proofs.lemmas.Bool.{eq-eqb}
+use Rattle.std.proofs.Common.{◌≡◌, ◌∙◌, ◌*◌, arith, length, sym, eq-eqb}
 use Rattle.sg_calls.proofs.GraphLemmas.{bonds-among}
 use Rattle.sg_calls.proofs.graphs.wrong_bond.Goals as goal
 

@@ -1,6 +1,4 @@
-use Rattle.std.proofs.Common.{◌≡◌, ◌^◌, ◌∙◌, None, ap, get_or, sym}
-use Rattle.std.specs.Prelude.{unsigned_abs}
-use Rattle.std.proofs.lemmas.Bool.{ltb-true}
+use Rattle.std.proofs.Common.{◌≡◌, ◌^◌, ◌∙◌, None, ap, get_or, sym, unsigned_abs, ltb-true}
 use Rattle.sg_model.specs.Ising.{bond_count}
 use Rattle.sg_lattice.specs.Tables.{bond_total}
 use Rattle.sg_lattice.proofs.LatticeBonds.{bond_count_is}

@@ -1,5 +1,4 @@
-use Rattle.std.proofs.Common.{◌≡◌, ◌∙◌, ◌*◌, arith, length, sym}
-use Rattle.std.proofs.lemmas.Bool.{eq-eqb}
+use Rattle.std.proofs.Common.{◌≡◌, ◌∙◌, ◌*◌, arith, length, sym, eq-eqb}
 use Rattle.sg_calls.proofs.NetworkLemmas.{edges-joined}
 use Rattle.sg_calls.proofs.networks.wrong_edge.Goals as goal
 

@@ -1,6 +1,5 @@
-use Rattle.std.proofs.Common.{◌≡◌, ℕ, ◌≤◌, ◌*◌, ◌^◌, ◌∙◌, ap, sym, ℤ, pos, ◌+ℤ◌, arith, rules, w64}
+use Rattle.std.proofs.Common.{◌≡◌, ℕ, ◌≤◌, ◌*◌, ◌^◌, ◌∙◌, ap, sym, ℤ, pos, ◌+ℤ◌, arith, rules, w64, FitsSigned}
 use Rattle.std.specs.Int.{w128, cast_signed, cast_unsigned}
-use Rattle.std.specs.Prelude.{FitsSigned}
 use Rattle.std.proofs.lemmas.Int.{ints, to_z-of_z, to_z_pos}
 use Rattle.sg_model.specs.Energy.{weight}
 use Rattle.sg_model.proofs.BrokenParity.{weight-le}

@@ -1,5 +1,4 @@
-use Rattle.std.proofs.Common.{ℕ, ◌*◌, ◌<◌, ◌≤◌, get_or}
-use Rattle.std.specs.Prelude.{unsigned_abs}
+use Rattle.std.proofs.Common.{ℕ, ◌*◌, ◌<◌, ◌≤◌, get_or, unsigned_abs}
 use Rattle.sg_model.specs.Ising.{bond_at}
 use Rattle.sg_check.proofs.loads.first_above.Given as goal
 

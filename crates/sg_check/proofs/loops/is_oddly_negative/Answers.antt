@@ -1,7 +1,5 @@
-use Rattle.std.proofs.Common.{◌≡◌, ◌∙◌, ap, true, false, pos, sym, rules, w64}
-use Rattle.std.specs.Prelude.{int_lt, FitsSigned}
+use Rattle.std.proofs.Common.{◌≡◌, ◌∙◌, ap, true, false, pos, sym, rules, w64, int_lt, FitsSigned, take_all}
 use Rattle.std.proofs.lemmas.Int.{to_z-of_z}
-use Rattle.std.proofs.lemmas.List.{take_all}
 use Rattle.sg_sums.specs.Parity.{xor, parity_by}
 use Rattle.sg_sums.proofs.ParityLaws.{xor-false, xor_comm}
 use Rattle.sg_model.specs.Ising.{bond_at}

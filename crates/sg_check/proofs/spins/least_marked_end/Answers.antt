@@ -1,6 +1,5 @@
-use Rattle.std.proofs.Common.{◌≡◌, true, subst, sym}
+use Rattle.std.proofs.Common.{◌≡◌, true, subst, sym, take_all}
 use Rattle.std.specs.List.{list_any}
-use Rattle.std.proofs.lemmas.List.{take_all}
 use Rattle.sg_check.proofs.OddSpins.{ends_at}
 use Rattle.sg_check.proofs.spins.least_marked_end.Goals as goal
 

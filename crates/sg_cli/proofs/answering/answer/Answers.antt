@@ -1,5 +1,4 @@
-use Rattle.std.specs.Prelude.{map, string_bytes}
-use Rattle.std.proofs.Common.{None, Some, refl, sym, ◌∙◌}
+use Rattle.std.proofs.Common.{map, string_bytes, None, Some, refl, sym, ◌∙◌}
 use Rattle.sg_words.specs.Command.{law_word}
 use Rattle.sg_cli.proofs.Replies.{command-served, reply-done, reply-fit, reply-refused, reply-settled}
 use Rattle.sg_cli.proofs.answering.answer.Goals as goal

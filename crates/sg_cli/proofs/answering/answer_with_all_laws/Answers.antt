@@ -1,5 +1,4 @@
-use Rattle.std.proofs.Common.{refl, List, ℕ, ℤ, inl, inr}
-use Rattle.std.specs.Prelude.{map, string_bytes}
+use Rattle.std.proofs.Common.{refl, List, ℕ, ℤ, inl, inr, map, string_bytes}
 use denote.Param.Object.{read_made}
 use Rattle.sg_laws.specs.declared.disorder.Disorder as disorder
 use Rattle.sg_cli.proofs.LawLemmas.{four-laws}

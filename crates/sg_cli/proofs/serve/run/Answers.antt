@@ -1,5 +1,4 @@
-use Rattle.std.specs.Prelude.{map, string_bytes}
-use Rattle.std.proofs.Common.{Some, ap, sym, ◌∙◌}
+use Rattle.std.proofs.Common.{map, string_bytes, Some, ap, sym, ◌∙◌}
 use Rattle.sg_report.specs.declared.status.Status.TheVariants.{Usage}
 use Rattle.sg_cli.specs.Served.{usage_text}
 use Rattle.sg_cli.proofs.AnswerLemmas.{drawn-in_part, drawn-whole, served-in_part, served-whole, usage-served}

@@ -1,5 +1,4 @@
-use Rattle.std.proofs.Common.{◌≡◌, [], arith, subst, sym, ap, ℕ, ◌∙◌}
-use Rattle.std.specs.BinaryHeap.{heap_items, heap_len}
+use Rattle.std.proofs.Common.{◌≡◌, [], arith, subst, sym, ap, ℕ, ◌∙◌, heap_items, heap_len}
 use Rattle.std.proofs.lemmas.List.{nil_from_length}
 use Rattle.sg_graph.proofs.Tables.{first_routes}
 use Rattle.sg_graph.specs.Web.{edge_count}

@@ -1,5 +1,4 @@
-use Rattle.std.proofs.Common.{◌≡◌, ◌∙◌, ℕ, [], List, None, Option, option_map, sym, ap, subst}
-use Rattle.std.specs.Prelude.{unwrap_or}
+use Rattle.std.proofs.Common.{◌≡◌, ◌∙◌, ℕ, [], List, None, Option, option_map, sym, ap, subst, unwrap_or}
 use Rattle.std.proofs.lemmas.Result.{IfErr-weaker}
 use Rattle.sg_model.specs.Faults.{IsRefusalOf, OrNoMemory}
 use Rattle.sg_model.specs.declared.refusal.Refusal.TheVariants.{SelfBond}

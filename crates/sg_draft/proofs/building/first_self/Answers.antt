@@ -1,5 +1,4 @@
-use Rattle.std.proofs.Common.{◌≡◌, true, sym, arith, length}
-use Rattle.std.proofs.lemmas.Bool.{eq-eqb}
+use Rattle.std.proofs.Common.{◌≡◌, true, sym, arith, length, eq-eqb}
 use Rattle.sg_draft.specs.Bonds.{is_self_bond, listed_bond}
 use Rattle.sg_draft.proofs.Finds.{find_range-none, find_range-some}
 use Rattle.sg_draft.proofs.building.first_self.Goals as goal

@@ -1,5 +1,4 @@
-use Rattle.std.proofs.Common.{◌≡◌, ◌∙◌, ap, sym}
-use Rattle.std.specs.Prelude.{map, option_map, Some, None}
+use Rattle.std.proofs.Common.{◌≡◌, ◌∙◌, ap, sym, map, option_map, Some, None}
 use Rattle.sg_laws.specs.Named.{first_named}
 use Rattle.sg_laws.proofs.Naming.{first_mapped}
 use Rattle.sg_draws.proofs.draw.draw_reply.Goals as goal

@@ -1,5 +1,4 @@
-use Rattle.std.proofs.Common.{◌≡◌, ◌≤◌, ◌*◌, ap, arith, to_z, of_z, w64, rules}
-use Rattle.std.specs.Prelude.{unsigned_abs}
+use Rattle.std.proofs.Common.{◌≡◌, ◌≤◌, ◌*◌, ap, arith, to_z, of_z, w64, rules, unsigned_abs}
 use Rattle.std.proofs.lemmas.Int.{fits_signed_from_abs, to_z-of_z}
 use Rattle.sg_model.specs.Energy.{weight}
 use Rattle.sg_ensemble.proofs.DrawnCylinders.{wall_size}

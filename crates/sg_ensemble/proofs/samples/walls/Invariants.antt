@@ -1,5 +1,4 @@
-use Rattle.std.proofs.Common.{◌≡◌, ℕ, ◌≤◌, ◌^◌, length, All}
-use Rattle.std.specs.Prelude.{unsigned_abs}
+use Rattle.std.proofs.Common.{◌≡◌, ℕ, ◌≤◌, ◌^◌, length, All, unsigned_abs}
 use Rattle.sg_ensemble.specs.Samples.{IsCylinder}
 use Rattle.sg_ensemble.proofs.DrawnWalls.{IsDrawn}
 use Rattle.sg_ensemble.proofs.samples.walls.Given as goal

@@ -1,5 +1,4 @@
-use Rattle.std.proofs.Common.{◌≡◌, ◌≤◌, ◌*◌, ◌^◌, take}
-use Rattle.std.specs.Prelude.{unsigned_abs}
+use Rattle.std.proofs.Common.{◌≡◌, ◌≤◌, ◌*◌, ◌^◌, take, unsigned_abs}
 use Rattle.sg_ensemble.specs.Samples.{square_sum}
 use Rattle.sg_ensemble.proofs.sums.sum_of_squares.Given as goal
 

@@ -1,7 +1,6 @@
-use Rattle.std.proofs.Common.{◌≡◌, ◌+ℤ◌, ◌+◌, ◌++◌, ℤ, map, take, ap, ◌∙◌, to_z, of_z, w64, rules}
-use Rattle.std.specs.Prelude.{FitsSigned}
+use Rattle.std.proofs.Common.{◌≡◌, ◌+ℤ◌, ◌+◌, ◌++◌, ℤ, map, take, ap, ◌∙◌, to_z, of_z, w64, rules, FitsSigned, take_all}
 use Rattle.std.proofs.lemmas.Int.{to_z-of_z}
-use Rattle.std.proofs.lemmas.List.{take_all, with_items_is}
+use Rattle.std.proofs.lemmas.List.{with_items_is}
 use Rattle.std.proofs.lemmas.Result.{err_from_is_err_and}
 use Rattle.sg_ground.specs.Placed.{loop_in_whole}
 use Rattle.sg_ground.proofs.Allowed.{part_exceeds}

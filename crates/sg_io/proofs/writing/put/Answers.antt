@@ -1,5 +1,4 @@
-use Rattle.std.proofs.Common.{◌-◌, List, ℕ, length, take, drop, sym, subst, ◌∙◌, arith, length-drop}
-use Rattle.std.proofs.lemmas.List.{length-take}
+use Rattle.std.proofs.Common.{◌-◌, List, ℕ, length, take, drop, sym, subst, ◌∙◌, arith, length-drop, length-take}
 use Rattle.sg_io.specs.Devices.{Grows}
 use Rattle.sg_io.proofs.DeviceLemmas.{Grows-more, take-joined}
 use Rattle.sg_io.proofs.writing.put.Goals as goal

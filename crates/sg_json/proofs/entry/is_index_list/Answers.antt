@@ -1,5 +1,4 @@
-use Rattle.std.proofs.Common.{◌∙◌, List, Option, sym, ap, rules, tests}
-use Rattle.std.specs.Prelude.{is_some}
+use Rattle.std.proofs.Common.{◌∙◌, List, Option, sym, ap, rules, tests, is_some}
 use Rattle.std.proofs.lemmas.Iterator.{YieldsList-from_slice}
 use Rattle.std.proofs.lemmas.Iterator.Search.{all_from_yields_List}
 use Rattle.std.proofs.lemmas.List.Folds.{list_all-map}

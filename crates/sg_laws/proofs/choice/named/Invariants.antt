@@ -1,5 +1,4 @@
-use Rattle.std.proofs.Common.{◌≡◌, drop, find}
-use Rattle.std.specs.Str.{bytes_eq}
+use Rattle.std.proofs.Common.{◌≡◌, drop, find, bytes_eq}
 use Rattle.sg_laws.proofs.choice.named.Given as goal
 
 abbrev pub invariant-loop-place : goal.invariant-loop-place

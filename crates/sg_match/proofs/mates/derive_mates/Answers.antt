@@ -1,8 +1,7 @@
 -- `derive_mates`: the mates of all leaves are a matching.
-use Rattle.std.proofs.Common.{get_or, set, ◌∙◌, inl, inr, subst, sym, arith}
+use Rattle.std.proofs.Common.{get_or, set, ◌∙◌, inl, inr, subst, sym, arith, get_or-set_other, get_or-set_same}
 use Rattle.std.proofs.Math.ListN.{length-set}
 use Rattle.std.proofs.lemmas.Bool.{cases_eq}
-use Rattle.std.proofs.lemmas.List.{get_or-set_other, get_or-set_same}
 use Rattle.sg_match.proofs.MatePairLemmas.{is_matching}
 use Rattle.sg_match.proofs.mates.derive_mates.Goals as goal
 use Rattle.sg_match.specs.MatePairs.{IsMate}

@@ -1,5 +1,4 @@
-use Rattle.std.proofs.Common.{◌≡◌, ◌≤◌, ◌^◌, ◌*◌, pos, fold, take, ◌+ℤ◌, ◌*ℤ◌}
-use Rattle.std.specs.Prelude.{unsigned_abs}
+use Rattle.std.proofs.Common.{◌≡◌, ◌≤◌, ◌^◌, ◌*◌, pos, fold, take, ◌+ℤ◌, ◌*ℤ◌, unsigned_abs}
 use Rattle.sg_model.specs.Energy.{product}
 use Rattle.sg_model.proofs.instance.alignment.Given as goal
 

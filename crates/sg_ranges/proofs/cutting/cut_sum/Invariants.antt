@@ -1,5 +1,4 @@
-use Rattle.std.proofs.Common.{◌≡◌, ◌≤◌, ◌^◌, ◌*◌, pos, cond, fold, take, ◌+ℤ◌}
-use Rattle.std.specs.Prelude.{unsigned_abs}
+use Rattle.std.proofs.Common.{◌≡◌, ◌≤◌, ◌^◌, ◌*◌, pos, cond, fold, take, ◌+ℤ◌, unsigned_abs}
 use Rattle.sg_ranges.specs.Cut.{is_cut}
 use Rattle.sg_ranges.proofs.cutting.cut_sum.Given as goal
 

@@ -1,6 +1,4 @@
-use Rattle.std.specs.Prelude.{map, pos}
-use Rattle.std.proofs.Common.{◌≡◌, ◌++◌, take}
-use Rattle.std.specs.List.{flat_map}
+use Rattle.std.proofs.Common.{map, pos, ◌≡◌, ◌++◌, take, flat_map}
 use Rattle.sg_report.specs.Line.{listed_number}
 use Rattle.sg_report.proofs.answers.push_bonds.Given as goal
 

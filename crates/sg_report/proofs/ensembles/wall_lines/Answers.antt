@@ -1,5 +1,4 @@
-use Rattle.std.specs.Prelude.{pos}
-use Rattle.std.proofs.Common.{◌≡◌, ◌++◌, ◌∙◌, get_or, arith, rules}
+use Rattle.std.proofs.Common.{pos, ◌≡◌, ◌++◌, ◌∙◌, get_or, arith, rules}
 use Rattle.sg_report.specs.Ensembles.{sample_line}
 use Rattle.sg_report.proofs.NumberedLines.{lines-all, lines-more}
 use Rattle.sg_report.proofs.ensembles.wall_lines.Goals as goal

@@ -1,5 +1,4 @@
-use Rattle.std.specs.Prelude.{codes}
-use Rattle.std.proofs.Common.{◌≡◌, ℕ, ◌++◌, ◌∙◌, ap, get_or, arith, rules}
+use Rattle.std.proofs.Common.{codes, ◌≡◌, ℕ, ◌++◌, ◌∙◌, ap, get_or, arith, rules}
 use Rattle.sg_report.specs.Text.{listed_int}
 use Rattle.sg_report.specs.Ensembles.{width_line}
 use Rattle.sg_report.proofs.NumberedLines.{lines-all, lines-more}

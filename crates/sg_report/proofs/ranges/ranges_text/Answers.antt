@@ -1,5 +1,4 @@
-use Rattle.std.specs.Prelude.{codes, pos}
-use Rattle.std.proofs.Common.{◌≡◌, ℕ, ℤ, ◌++◌, ◌∙◌, ap, get_or, arith, rules}
+use Rattle.std.proofs.Common.{codes, pos, ◌≡◌, ℕ, ℤ, ◌++◌, ◌∙◌, ap, get_or, arith, rules}
 use Rattle.sg_report.specs.Text.{listed_int}
 use Rattle.sg_report.specs.Ranges.{turn_line}
 use Rattle.sg_report.proofs.NumberedLines.{lines-all, lines-more}

@@ -1,5 +1,4 @@
-use Rattle.std.specs.Prelude.{codes}
-use Rattle.std.proofs.Common.{◌≡◌, ◌++◌, ◌∙◌, ap, get_or, arith, rules}
+use Rattle.std.proofs.Common.{codes, ◌≡◌, ◌++◌, ◌∙◌, ap, get_or, arith, rules}
 use Rattle.sg_report.specs.Text.{cluster_line}
 use Rattle.sg_report.proofs.NumberedLines.{lines-all, lines-more}
 use Rattle.sg_report.proofs.studies.clusters_text.Goals as goal

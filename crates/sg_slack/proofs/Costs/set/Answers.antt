@@ -1,6 +1,5 @@
-use Rattle.std.proofs.Common.{◌<◌, ◌*◌, ◌+◌, ◌∙◌, List, ℤ, subst, sym, w64, to_z, of_z, set}
+use Rattle.std.proofs.Common.{◌<◌, ◌*◌, ◌+◌, ◌∙◌, List, ℤ, subst, sym, w64, to_z, of_z, set, length-set}
 use Rattle.std.proofs.lemmas.Int.{to_z-of_z}
-use Rattle.std.proofs.lemmas.List.{length-set}
 use Rattle.sg_slack.proofs.TableLemmas.{SetsPair-written, symmetric_set}
 use Rattle.sg_slack.proofs.Costs.set.Goals as goal
 

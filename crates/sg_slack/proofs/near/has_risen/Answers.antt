@@ -1,6 +1,5 @@
 -- `has_risen`: the total less the rise is the base exactly if it has risen by so much.
-use Rattle.std.proofs.Common.{arith}
-use Rattle.std.proofs.lemmas.Bool.{eq-eqb}
+use Rattle.std.proofs.Common.{arith, eq-eqb}
 use Rattle.std.proofs.lemmas.Int.{ints, to_z-of_z}
 use Rattle.sg_slack.proofs.near.has_risen.Goals as goal
 

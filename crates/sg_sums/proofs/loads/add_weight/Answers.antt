@@ -1,5 +1,4 @@
-use Rattle.std.proofs.Common.{arith}
-use Rattle.std.proofs.lemmas.List.{length-set}
+use Rattle.std.proofs.Common.{arith, length-set}
 use Rattle.sg_sums.proofs.AddedLoads.{added_more}
 use Rattle.sg_sums.proofs.loads.add_weight.Goals as goal
 

@@ -1,5 +1,4 @@
-use Rattle.std.proofs.Common.{length, subst, IfSome}
-use Rattle.std.specs.Prelude.{MatchOption}
+use Rattle.std.proofs.Common.{length, subst, IfSome, MatchOption}
 use Rattle.sg_nest.specs.declared.nest.Nest.{Nest}
 use Rattle.sg_regions.specs.Steps.{Accounts}
 use Rattle.sg_regions.specs.declared.nest_proposal.NestProposal.{NestProposal}

@@ -1,5 +1,4 @@
-use Rattle.std.proofs.Common.{◌≡◌, ◌<◌, ◌/◌, true, false, [], length, get_or, sym, ◌∙◌, ap, arith, not, ◌&&◌}
-use Rattle.std.proofs.lemmas.List.{take_all}
+use Rattle.std.proofs.Common.{◌≡◌, ◌<◌, ◌/◌, true, false, [], length, get_or, sym, ◌∙◌, ap, arith, not, ◌&&◌, take_all}
 use Rattle.std.proofs.lemmas.Option.{get_or_from_slice_get}
 use Rattle.sg_model.specs.Rotation.{dart_count, darts_of, head_of, tail}
 use Rattle.sg_model.proofs.Rotations.{in_list}

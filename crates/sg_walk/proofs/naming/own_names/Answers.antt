@@ -1,5 +1,4 @@
-use Rattle.std.proofs.Common.{ℕ, Bool, List, [], ◌∷◌, ◌++◌, eqb, eq-eqb, get_or, sym, ◌∙◌, ap}
-use Rattle.std.proofs.lemmas.Bool.{ne_eqb}
+use Rattle.std.proofs.Common.{ℕ, Bool, List, [], ◌∷◌, ◌++◌, eqb, eq-eqb, get_or, sym, ◌∙◌, ap, ne_eqb}
 use Rattle.sg_sums.proofs.Choosing.{chosen_below_yes, chosen_below_no}
 use Rattle.sg_walk.proofs.naming.own_names.Goals.{then-names-spin+in_ok-push, else-names-spin}
 use Rattle.sg_walk.proofs.naming.own_names.Goals as goal

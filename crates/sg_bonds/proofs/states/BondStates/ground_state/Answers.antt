@@ -1,5 +1,4 @@
-use Rattle.std.proofs.Common.{◌≡◌, Option, List, ℕ, sym, ◌∙◌, subst}
-use Rattle.std.specs.Prelude.{IfSome}
+use Rattle.std.proofs.Common.{◌≡◌, Option, List, ℕ, sym, ◌∙◌, subst, IfSome}
 use Rattle.sg_model.specs.Connected.{IsConnected}
 use Rattle.sg_model.specs.Energy.{IsGroundState}
 use Rattle.sg_graph.specs.Join.{IsJoin, IsLeastJoin}

@@ -1,5 +1,4 @@
-use Rattle.std.proofs.Common.{Option, subst}
-use Rattle.std.specs.Prelude.{IfSome}
+use Rattle.std.proofs.Common.{Option, subst, IfSome}
 use Rattle.sg_model.specs.Connected.{IsConnected}
 use Rattle.sg_planar.specs.Fit.{Embedding}
 use Rattle.sg_bonds.specs.declared.states.Finder.{Finder}

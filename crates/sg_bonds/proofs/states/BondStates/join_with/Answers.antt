@@ -1,5 +1,4 @@
-use Rattle.std.proofs.Common.{◌≡◌, ◌∙◌, Option, pos, ap, subst, arith}
-use Rattle.std.specs.Prelude.{IfOk, IfSome}
+use Rattle.std.proofs.Common.{◌≡◌, ◌∙◌, Option, pos, ap, subst, arith, IfOk, IfSome}
 use Rattle.sg_model.specs.Ising.{bond_count}
 use Rattle.sg_model.specs.Connected.{IsConnected}
 use Rattle.sg_graph.specs.Web.{Graph, weight_of}

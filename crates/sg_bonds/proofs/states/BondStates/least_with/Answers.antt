@@ -1,5 +1,4 @@
-use Rattle.std.proofs.Common.{◌≡◌, Option, pos, ap, ap₂, sym, ◌∙◌, subst}
-use Rattle.std.specs.Prelude.{IfSome}
+use Rattle.std.proofs.Common.{◌≡◌, Option, pos, ap, ap₂, sym, ◌∙◌, subst, IfSome}
 use Rattle.sg_model.specs.Ising.{bond_at}
 use Rattle.sg_model.specs.Connected.{IsConnected}
 use Rattle.sg_graph.specs.Web.{weight_of}

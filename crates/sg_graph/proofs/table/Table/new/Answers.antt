@@ -1,5 +1,4 @@
-use Rattle.std.proofs.Common.{List, Option, arith, sym, subst}
-use Rattle.std.proofs.lemmas.List.{length-set}
+use Rattle.std.proofs.Common.{List, Option, arith, sym, subst, length-set}
 use Rattle.sg_graph.specs.Table.{IsTable, Route}
 use Rattle.sg_graph.proofs.Tables.{IsTable-first, first_routes_is}
 use Rattle.sg_graph.proofs.table.Table.new.Goals as goal

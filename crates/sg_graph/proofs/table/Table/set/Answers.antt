@@ -1,5 +1,4 @@
-use Rattle.std.proofs.Common.{arith, FitsSigned, w64, to_z, of_z, to_z-of_z, rules}
-use Rattle.std.proofs.lemmas.List.{length-set}
+use Rattle.std.proofs.Common.{arith, FitsSigned, w64, to_z, of_z, to_z-of_z, rules, length-set}
 use Rattle.sg_graph.proofs.Tables.{IsTable-set, lists_long, with_route_is}
 use Rattle.sg_graph.proofs.table.Table.set.Goals as goal
 

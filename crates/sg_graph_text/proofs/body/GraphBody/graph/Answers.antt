@@ -1,5 +1,4 @@
-use Rattle.std.proofs.Common.{◌∙◌, ap, sym}
-use Rattle.std.specs.Prelude.{unwrap_or}
+use Rattle.std.proofs.Common.{◌∙◌, ap, sym, unwrap_or}
 use Rattle.sg_graph_text.specs.Graph.{terminals_fault, terminals_of}
 use Rattle.sg_graph_text.proofs.BodyLaws.{end-bare, end-passes, end-terminals, graph-held, sound-held}
 use Rattle.sg_reader.proofs.RestLaws.{failed}

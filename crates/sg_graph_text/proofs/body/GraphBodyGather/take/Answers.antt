@@ -1,5 +1,4 @@
-use Rattle.std.proofs.Common.{◌≡◌, ℕ, false, sym, ◌∙◌, subst}
-use Rattle.std.specs.Prelude.{◌&&◌}
+use Rattle.std.proofs.Common.{◌≡◌, ℕ, false, sym, ◌∙◌, subst, ◌&&◌}
 use Rattle.sg_model.specs.declared.refusal.Fault.TheVariants.{Refused}
 use Rattle.sg_model.specs.declared.refusal.Refusal.TheVariants.{UnknownKind}
 use Rattle.sg_reader.specs.Ended.{RefusesNext}

@@ -1,5 +1,4 @@
-use Rattle.std.proofs.Common.{◌≡◌, ℕ, ℤ, pos, ◌/◌, ◌%◌, true, List, [], ◌∷◌, ◌++◌, cond, length, get_or, sym, ◌∙◌, ap, ap₂, append-nil, rules, arith}
-use Rattle.std.specs.Int.{w64}
+use Rattle.std.proofs.Common.{◌≡◌, ℕ, ℤ, pos, ◌/◌, ◌%◌, true, List, [], ◌∷◌, ◌++◌, cond, length, get_or, sym, ◌∙◌, ap, ap₂, append-nil, rules, arith, w64}
 use Rattle.std.proofs.lemmas.Int.{to_z-of_z}
 use Rattle.sg_model.specs.declared.bond.Bond.{Bond}
 use Rattle.sg_lattice.specs.declared.kind.Ends.{Ends}

@@ -1,5 +1,4 @@
-use Rattle.std.proofs.Common.{◌≡◌, ◌≤◌, ◌^◌, ◌*◌, pos, take, sum_by}
-use Rattle.std.specs.Prelude.{unsigned_abs}
+use Rattle.std.proofs.Common.{◌≡◌, ◌≤◌, ◌^◌, ◌*◌, pos, take, sum_by, unsigned_abs}
 use Rattle.sg_model.proofs.instance.Instance.weight.Given as goal
 
 abbrev pub invariant-loop-bond : goal.invariant-loop-bond

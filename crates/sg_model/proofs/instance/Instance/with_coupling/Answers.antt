@@ -1,7 +1,5 @@
-use Rattle.std.proofs.Common.{◌<◌, List, [], ◌∷◌, ◌++◌, length, take, sym, ◌∙◌, ap, ap₂, subst, arith}
-use Rattle.std.specs.Int.{w64}
+use Rattle.std.proofs.Common.{◌<◌, List, [], ◌∷◌, ◌++◌, length, take, sym, ◌∙◌, ap, ap₂, subst, arith, w64, take_all}
 use Rattle.std.proofs.lemmas.Int.{to_z-of_z}
-use Rattle.std.proofs.lemmas.List.{take_all}
 use Rattle.sg_model.specs.declared.bond.Bond.{Bond}
 use Rattle.sg_model.specs.Ising.{bond_count}
 use Rattle.sg_model.specs.WellFormed.{IsInstance}

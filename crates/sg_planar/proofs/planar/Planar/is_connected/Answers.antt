@@ -1,5 +1,4 @@
-use Rattle.std.proofs.Common.{◌≡◌, ◌∙◌, eq-eqb, length, subst, sym}
-use Rattle.std.proofs.lemmas.Bool.{eqb-true}
+use Rattle.std.proofs.Common.{◌≡◌, ◌∙◌, eq-eqb, length, subst, sym, eqb-true}
 use Rattle.sg_model.specs.Connected.{IsConnected}
 use Rattle.sg_walk.proofs.ComponentLaws.{connected_from_one, one_from_connected}
 use Rattle.sg_planar.specs.Fit.{Embedding}

@@ -1,5 +1,4 @@
-use Rattle.std.proofs.Common.{List, ℕ, length, map, ◌∙◌, ap}
-use Rattle.std.specs.Prelude.{unwrap_or}
+use Rattle.std.proofs.Common.{List, ℕ, length, map, ◌∙◌, ap, unwrap_or}
 use Rattle.std.proofs.lemmas.List.{length-map}
 use Rattle.std.proofs.lemmas.Result.{IfErr-weaker, IfOk-weaker}
 use Rattle.sg_model.specs.Ising.{Ising}

@@ -1,5 +1,4 @@
-use Rattle.std.proofs.Common.{◌≡◌, ℕ, false, true, List, Option, None, Some, set, get_or, sym, ◌∙◌, ap, ap₂, arith, refl}
-use Rattle.std.specs.Prelude.{is_some, slice_get}
+use Rattle.std.proofs.Common.{◌≡◌, ℕ, false, true, List, Option, None, Some, set, get_or, sym, ◌∙◌, ap, ap₂, arith, refl, is_some, slice_get}
 use Rattle.std.proofs.lemmas.Option.{get_or_from_slice_get}
 use Rattle.sg_model.specs.declared.refusal.Refusal.TheVariants.{BadShape}
 use Rattle.sg_reader.proofs.TestLaws.{or-first}
