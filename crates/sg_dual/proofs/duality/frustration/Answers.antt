@@ -1,5 +1,5 @@
-use Rattle.std.proofs.lemmas.Grind.{elements}
 use Rattle.std.proofs.Common.{◌≡◌, ap, arith, length, ◌∙◌, sym}
+use Rattle.std.proofs.lemmas.Grind.{elements}
 use Rattle.sg_model.specs.declared.bond.Bond.{Bond}
 use Rattle.sg_model.specs.Rotation.{dart_count}
 use Rattle.sg_sums.specs.Parity.{parity_below}

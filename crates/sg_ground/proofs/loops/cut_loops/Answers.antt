@@ -1,5 +1,5 @@
-use Rattle.std.proofs.lemmas.Grind.{common_steps}
 use Rattle.std.proofs.Common.{arith}
+use Rattle.std.proofs.lemmas.Grind.{common_steps}
 use Rattle.sg_ground.proofs.loops.cut_loops.Goals as goal
 
 pub loop-cut-preserved : goal.loop-cut-preserved

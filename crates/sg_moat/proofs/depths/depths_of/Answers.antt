@@ -1,5 +1,5 @@
-use Rattle.std.proofs.lemmas.Grind.{common_steps}
 use Rattle.std.proofs.Common.{◌+◌, ◌≡◌, ap, sym, subst, arith, rules, ◌∙◌}
+use Rattle.std.proofs.lemmas.Grind.{common_steps}
 use Rattle.std.proofs.lemmas.List.{get_or_read, with_items_is}
 use Rattle.sg_moat.specs.Depths.{AreDepths, Lowers}
 use Rattle.sg_moat.specs.Input.{blank_table, table_at}

@@ -1,5 +1,5 @@
-use Rattle.std.proofs.lemmas.Grind.{common_steps}
 use Rattle.std.proofs.Common.{arith}
+use Rattle.std.proofs.lemmas.Grind.{common_steps}
 use Rattle.sg_postman.proofs.doubling.copies.Goals as goal
 
 pub loop-edge-preserved : goal.loop-edge-preserved
