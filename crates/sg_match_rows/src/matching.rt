@@ -162,6 +162,26 @@ fn all_duals<R: Abort>(rt: &R, arena: &Arena, leaves: u32) -> i64
     sum
 }
 
+// The engine's mates cost so much, and so do the duals together. `kept` has the same costs.
+fn costs_so_much<L: Ledger, R: Abort>(
+    rt: &R,
+    alloc: Global,
+    costs: Costs,
+    kept: &Costs,
+    cost: i64,
+    steps: &mut Steps<L>,
+) -> Result<(), NoMemory>
+    requires { kept.now.size ≡ costs.size }
+{
+    expect(rt, "a metric", is_metric(&costs));
+    let matched = Engine::open(alloc, costs)?.run(steps);
+    let mates = matched.mates.as_slice();
+    expect(rt, "cost", mates_cost(rt, kept, mates) == cost);
+    let duals = all_duals(rt, &matched.family, kept.size());
+    expect(rt, "duals", duals == cost);
+    Ok(())
+}
+
 // The engine's mates of eight places cost as much as the best of all pairings.
 fn meets_least<L: Ledger, R: Abort>(
     rt: &R,
@@ -170,15 +190,24 @@ fn meets_least<L: Ledger, R: Abort>(
     steps: &mut Steps<L>,
 ) -> Result<(), NoMemory> {
     let costs = distances(rt, alloc, places)?;
-    let least = least_plain(rt, &costs);
     let kept = distances(rt, alloc, places)?;
+    let least = least_plain(rt, &kept);
+    costs_so_much(rt, alloc, costs, &kept, least, steps)
+}
+
+// An engine over these costs has nothing to do but one step, and its duals sum to this.
+fn is_done_at_once<L: Ledger, R: Abort>(
+    rt: &R,
+    alloc: Global,
+    costs: Costs,
+    duals: i64,
+    steps: &mut Steps<L>,
+) -> Result<(), NoMemory> {
+    let leaves = costs.size();
     expect(rt, "a metric", is_metric(&costs));
-    let matched = Engine::open(alloc, costs)?.run(steps);
-    expect(
-        rt,
-        "cost",
-        mates_cost(rt, &kept, matched.mates.as_slice()) == least,
-    );
+    let mut engine = Engine::open(alloc, costs)?;
+    expect(rt, "stage", engine.advance(steps) == Stage::Matched);
+    expect(rt, "duals", all_duals(rt, engine.family(), leaves) == duals);
     Ok(())
 }
 
@@ -191,11 +220,7 @@ fn matches_two<L: Ledger, R: Abort>(rt: &R, alloc: Global, blank: Blank) -> Resu
     let mut steps = Steps::<L>::new(blank);
     let mut costs = Costs::new(alloc, 2)?;
     costs.set(0, 1, 4);
-    expect(rt, "a metric", is_metric(&costs));
-    let mut engine = Engine::open(alloc, costs)?;
-    expect(rt, "stage", engine.advance(&mut steps) == Stage::Matched);
-    expect(rt, "duals", all_duals(rt, engine.family(), 2) == 4);
-    Ok(())
+    is_done_at_once(rt, alloc, costs, 4, &mut steps)
 }
 
 #[test]
@@ -212,10 +237,7 @@ fn matches_none<L: Ledger, R: Abort>(rt: &R, alloc: Global, blank: Blank) -> Res
 {
     let mut steps = Steps::<L>::new(blank);
     let costs = Costs::new(alloc, 0)?;
-    expect(rt, "a metric", is_metric(&costs));
-    let mut engine = Engine::open(alloc, costs)?;
-    expect(rt, "stage", engine.advance(&mut steps) == Stage::Matched);
-    Ok(())
+    is_done_at_once(rt, alloc, costs, 0, &mut steps)
 }
 
 #[test]
@@ -247,15 +269,7 @@ fn joins_triangles<L: Ledger, R: Abort>(rt: &R, alloc: Global, blank: Blank) -> 
     let mut steps = Steps::<L>::new(blank);
     let costs = triangles(alloc)?;
     let kept = triangles(alloc)?;
-    expect(rt, "a metric", is_metric(&costs));
-    let matched = Engine::open(alloc, costs)?.run(&mut steps);
-    expect(
-        rt,
-        "cost",
-        mates_cost(rt, &kept, matched.mates.as_slice()) == 24,
-    );
-    expect(rt, "duals", all_duals(rt, &matched.family, 6) == 24);
-    Ok(())
+    costs_so_much(rt, alloc, costs, &kept, 24, &mut steps)
 }
 
 #[test]
@@ -317,15 +331,7 @@ fn matches_for_nothing<L: Ledger, R: Abort>(
     let mut steps = Steps::<L>::new(blank);
     let costs = Costs::new(alloc, 4)?;
     let kept = Costs::new(alloc, 4)?;
-    expect(rt, "a metric", is_metric(&costs));
-    let matched = Engine::open(alloc, costs)?.run(&mut steps);
-    expect(
-        rt,
-        "cost",
-        mates_cost(rt, &kept, matched.mates.as_slice()) == 0,
-    );
-    expect(rt, "duals", all_duals(rt, &matched.family, 4) == 0);
-    Ok(())
+    costs_so_much(rt, alloc, costs, &kept, 0, &mut steps)
 }
 
 #[test]
