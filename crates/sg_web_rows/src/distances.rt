@@ -40,33 +40,8 @@ fn a_node_apart_is_not_reached(rt: HostRuntime) -> Result<(), Fail> {
     Ok(())
 }
 
-const NODES: usize = 5;
-
-// All distances of the graph on five nodes by Floyd and Warshall, `u64::MAX` where there is no
-// walk.
-fn all_distances(list: &[EdgeRow]) -> [u64; 25] {
-    let mut far = [u64::MAX; 25];
-    for i in 0..NODES {
-        far[6 * i] = 0;
-    }
-    for (a, b, w) in list {
-        let a = *a as usize;
-        let b = *b as usize;
-        if a < NODES && b < NODES {
-            far[5 * a + b] = far[5 * a + b].min(w.unsigned_abs());
-            far[5 * b + a] = far[5 * a + b];
-        }
-    }
-    for k in 0..NODES {
-        for i in 0..NODES {
-            for j in 0..NODES {
-                let over = far[5 * i + k].saturating_add(far[5 * k + j]);
-                far[5 * i + j] = far[5 * i + j].min(over);
-            }
-        }
-    }
-    far
-}
+// The distance of a node that is not reached.
+const FAR: u64 = u64::MAX;
 
 // The weight of the edges of a walk.
 fn walk_weight(walk: &[u32], list: &[EdgeRow]) -> u64 {
@@ -79,7 +54,7 @@ fn walk_weight(walk: &[u32], list: &[EdgeRow]) -> u64 {
     weight
 }
 
-// A node is at this distance, and the walk to it weighs as much; `u64::MAX` if it is not reached.
+// A node is at this distance, or `FAR`, and the walk to it weighs as much.
 fn expect_far(
     rt: &impl Abort,
     alloc: Global,
@@ -92,11 +67,7 @@ fn expect_far(
     requires table { IsTableOf small.now table.now }
     requires node { node < small.now.nodes }
 {
-    expect(
-        rt,
-        "a node is reached",
-        table.reached(node) == (far < u64::MAX),
-    );
+    expect(rt, "a node is reached", table.reached(node) == (far < FAR));
     if table.reached(node) {
         expect(rt, "distance", table.distance(node).unsigned_abs() == far);
         let walk = path(alloc, small, table, node)?;
@@ -105,80 +76,175 @@ fn expect_far(
     Ok(())
 }
 
-// The distances from each node are those of the list, and so are the weights of the walks.
-fn agrees(rt: &impl Abort, alloc: Global, list: &[EdgeRow]) -> Result<(), NoMemory> {
-    let far = all_distances(list);
+// The distances from each node are these, and so are the weights of the walks.
+fn agrees(
+    rt: &impl Abort,
+    alloc: Global,
+    list: &[EdgeRow],
+    far: &[[u64; 5]; 5],
+) -> Result<(), NoMemory> {
     let small = web(rt, alloc, 5, list)?;
     for source in 0..5u32 {
         let table = distances(alloc, &small, source)?;
         for node in 0..5u32 {
-            let wanted = far[5 * source as usize + node as usize];
+            let wanted = far[source as usize][node as usize];
             expect_far(rt, alloc, &small, &table, node, wanted, list)?;
         }
     }
     Ok(())
 }
 
-static WEBS: [&[EdgeRow]; 10] = [
-    &[],
-    &[(0, 0, 3), (4, 4, 0)],
-    &[(0, 1, 1), (1, 2, 1), (2, 3, 1), (3, 4, 1), (4, 0, 1)],
-    &[(0, 1, 0), (1, 2, 0), (2, 0, 0), (3, 4, 0)],
-    &[
-        (0, 1, 9),
-        (0, 2, 1),
-        (2, 1, 1),
-        (1, 3, 5),
-        (2, 3, 7),
-        (3, 4, 0),
-    ],
-    &[
-        (0, 1, 4),
-        (1, 0, 3),
-        (0, 1, 3),
-        (1, 1, 0),
-        (1, 2, 2),
-        (2, 1, 2),
-    ],
-    &[
-        (4, 3, 2),
-        (3, 2, 2),
-        (2, 1, 2),
-        (1, 0, 2),
-        (4, 0, 9),
-        (2, 4, 3),
-    ],
-    &[
-        (0, 1, 1),
-        (0, 2, 1),
-        (0, 3, 1),
-        (0, 4, 1),
-        (1, 2, 5),
-        (3, 4, 0),
-    ],
-    &[
-        (0, 4, 100),
-        (0, 1, 30),
-        (1, 2, 30),
-        (2, 4, 30),
-        (1, 3, 20),
-        (3, 4, 39),
-    ],
-    &[
-        (2, 2, 1),
-        (2, 0, 0),
-        (0, 1, 0),
-        (1, 2, 1),
-        (2, 3, 0),
-        (3, 0, 1),
-        (3, 1, 0),
-    ],
+// Graphs on five nodes, and the distances from each of them to each, from elsewhere by Floyd and Warshall.
+static WEBS: [(&[EdgeRow], [[u64; 5]; 5]); 10] = [
+    (
+        &[],
+        [
+            [0, FAR, FAR, FAR, FAR],
+            [FAR, 0, FAR, FAR, FAR],
+            [FAR, FAR, 0, FAR, FAR],
+            [FAR, FAR, FAR, 0, FAR],
+            [FAR, FAR, FAR, FAR, 0],
+        ],
+    ),
+    (
+        &[(0, 0, 3), (4, 4, 0)],
+        [
+            [0, FAR, FAR, FAR, FAR],
+            [FAR, 0, FAR, FAR, FAR],
+            [FAR, FAR, 0, FAR, FAR],
+            [FAR, FAR, FAR, 0, FAR],
+            [FAR, FAR, FAR, FAR, 0],
+        ],
+    ),
+    (
+        &[(0, 1, 1), (1, 2, 1), (2, 3, 1), (3, 4, 1), (4, 0, 1)],
+        [
+            [0, 1, 2, 2, 1],
+            [1, 0, 1, 2, 2],
+            [2, 1, 0, 1, 2],
+            [2, 2, 1, 0, 1],
+            [1, 2, 2, 1, 0],
+        ],
+    ),
+    (
+        &[(0, 1, 0), (1, 2, 0), (2, 0, 0), (3, 4, 0)],
+        [
+            [0, 0, 0, FAR, FAR],
+            [0, 0, 0, FAR, FAR],
+            [0, 0, 0, FAR, FAR],
+            [FAR, FAR, FAR, 0, 0],
+            [FAR, FAR, FAR, 0, 0],
+        ],
+    ),
+    (
+        &[
+            (0, 1, 9),
+            (0, 2, 1),
+            (2, 1, 1),
+            (1, 3, 5),
+            (2, 3, 7),
+            (3, 4, 0),
+        ],
+        [
+            [0, 2, 1, 7, 7],
+            [2, 0, 1, 5, 5],
+            [1, 1, 0, 6, 6],
+            [7, 5, 6, 0, 0],
+            [7, 5, 6, 0, 0],
+        ],
+    ),
+    (
+        &[
+            (0, 1, 4),
+            (1, 0, 3),
+            (0, 1, 3),
+            (1, 1, 0),
+            (1, 2, 2),
+            (2, 1, 2),
+        ],
+        [
+            [0, 3, 5, FAR, FAR],
+            [3, 0, 2, FAR, FAR],
+            [5, 2, 0, FAR, FAR],
+            [FAR, FAR, FAR, 0, FAR],
+            [FAR, FAR, FAR, FAR, 0],
+        ],
+    ),
+    (
+        &[
+            (4, 3, 2),
+            (3, 2, 2),
+            (2, 1, 2),
+            (1, 0, 2),
+            (4, 0, 9),
+            (2, 4, 3),
+        ],
+        [
+            [0, 2, 4, 6, 7],
+            [2, 0, 2, 4, 5],
+            [4, 2, 0, 2, 3],
+            [6, 4, 2, 0, 2],
+            [7, 5, 3, 2, 0],
+        ],
+    ),
+    (
+        &[
+            (0, 1, 1),
+            (0, 2, 1),
+            (0, 3, 1),
+            (0, 4, 1),
+            (1, 2, 5),
+            (3, 4, 0),
+        ],
+        [
+            [0, 1, 1, 1, 1],
+            [1, 0, 2, 2, 2],
+            [1, 2, 0, 2, 2],
+            [1, 2, 2, 0, 0],
+            [1, 2, 2, 0, 0],
+        ],
+    ),
+    (
+        &[
+            (0, 4, 100),
+            (0, 1, 30),
+            (1, 2, 30),
+            (2, 4, 30),
+            (1, 3, 20),
+            (3, 4, 39),
+        ],
+        [
+            [0, 30, 60, 50, 89],
+            [30, 0, 30, 20, 59],
+            [60, 30, 0, 50, 30],
+            [50, 20, 50, 0, 39],
+            [89, 59, 30, 39, 0],
+        ],
+    ),
+    (
+        &[
+            (2, 2, 1),
+            (2, 0, 0),
+            (0, 1, 0),
+            (1, 2, 1),
+            (2, 3, 0),
+            (3, 0, 1),
+            (3, 1, 0),
+        ],
+        [
+            [0, 0, 0, 0, FAR],
+            [0, 0, 0, 0, FAR],
+            [0, 0, 0, 0, FAR],
+            [0, 0, 0, 0, FAR],
+            [FAR, FAR, FAR, FAR, 0],
+        ],
+    ),
 ];
 
 #[test]
 fn distances_are_those_of_floyd_and_warshall(rt: HostRuntime) -> Result<(), Fail> {
-    for list in &WEBS {
-        agrees(&rt, rt.alloc(), list)?;
+    for (list, far) in &WEBS {
+        agrees(&rt, rt.alloc(), list, far)?;
     }
     Ok(())
 }

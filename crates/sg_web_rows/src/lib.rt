@@ -1,6 +1,6 @@
 //! Tests of weighted graphs and of what is found in them, through their public functions: tables of
-//! distances, shortest walks, minimum T-joins, the cuts of moats, the judges of T-joins by cuts and by
-//! nests, and closed walks over every edge.
+//! distances, shortest walks, minimum T-joins, the cuts of moats, and the judges of T-joins by cuts and
+//! by nests. `tools/lib/rows/graphs.py` has the closed walks over every edge.
 //!
 //! Expected values come from outside the program: worked by hand, or by trying all walks or all T-joins.
 #![tactic(auto)]
@@ -21,7 +21,5 @@ mod judged;
 mod moats;
 #[cfg(test)]
 mod nests;
-#[cfg(test)]
-mod tours;
 #[cfg(test)]
 mod webs;
