@@ -23,6 +23,24 @@ except ImportError:
     numpy = None
 
 
+# A cylinder of twelve spins, a triangular strip of ten with its spins renamed and its embedding mirrored, and two
+# loops of four and of three spins; with the cost of each bond, by all assignments in another language.
+ELSEWHERE = [
+    (
+        "cylinder,3,4\n4,-1,0,5,3,-5,2,-2,5,-5,-3,-4,0,2,-2,1,3,-4,4,-2\nend\n",
+        [6, 0, 0, 8, 4, 4, 4, 4, 4, 0, 2, 0, 0, 0, 2, 0, 0, 0, 4, 2],
+    ),
+    (
+        "general,10\nbond,3,0,2\nbond,0,9,0\nbond,9,7,-4\nbond,7,6,1\nbond,8,1,2\nbond,1,5,-2\nbond,5,4,-2\nbond,4,2,0\nbond,3,8,-3\nbond,0,1,1\nbond,9,5,0\nbond,7,4,-4\nbond,6,2,1\nbond,3,1,-3\nbond,0,5,0\nbond,9,4,1\nbond,7,2,0\nrot,0,28,18,1,2\nrot,1,9,27,19,10\nrot,2,15,33,25\nrot,3,26,16,0\nrot,4,13,31,23,14\nrot,5,11,29,21,12\nrot,6,24,7\nrot,7,32,22,5,6\nrot,8,17,8\nrot,9,30,20,3,4\nend\n",
+        [2, 2, 10, 2, 8, 4, 4, 2, 10, 2, 4, 10, 2, 8, 2, 10, 2],
+    ),
+    (
+        "general,7\nbond,0,1,2\nbond,1,2,3\nbond,2,3,4\nbond,3,0,-5\nbond,4,5,1\nbond,5,6,1\nbond,6,4,-1\nrot,0,0,7\nrot,1,2,1\nrot,2,4,3\nrot,3,6,5\nrot,4,8,13\nrot,5,10,9\nrot,6,12,11\nend\n",
+        [2, 2, 4, 6, 0, 0, 0],
+    ),
+]
+
+
 def small(source):
     """A random lattice or graph of few spins."""
     while True:
@@ -190,6 +208,14 @@ class Enclosures(unittest.TestCase):
             self.assertEqual(low >= 2, cost > 0)
             if cost == 0:
                 self.assertEqual((low, high), (0, 0))
+
+    def test_costs_that_were_found_elsewhere(self):
+        for text, costs in ELSEWHERE:
+            instance = ising2d.read(text)
+            for rounds in (0, 1, 24):
+                self.enclose(instance.cost_bounds(rounds), costs)
+            for bond, cost in enumerate(costs):
+                self.assertEqual(instance.costs([bond]).tolist(), [cost])
 
     def test_beside_the_costs(self):
         source = random.Random(51)
