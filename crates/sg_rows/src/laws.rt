@@ -56,19 +56,28 @@ fn the_first_law_of_a_name(rt: HostRuntime) -> Result<(), Fail> {
     Ok(())
 }
 
-// A law whose draws are the entries of a table.
-fn table(alloc: Global) -> Result<Vec<Box<dyn Disorder>>, AllocError> {
-    let table = Table::new(String::from_str(alloc, "t")?, vec![in alloc; 2, -3]?);
+// Laws whose draws are the entries of a table, of two and of three.
+fn tables(alloc: Global) -> Result<Vec<Box<dyn Disorder>>, AllocError> {
     let mut laws = no_laws(alloc);
-    laws.push(Box::new(alloc, table)?)?;
+    let two = Table::new(String::from_str(alloc, "t")?, vec![in alloc; 2, -3]?);
+    laws.push(Box::new(alloc, two)?)?;
+    let three = Table::new(String::from_str(alloc, "u")?, vec![in alloc; 2, -3, 5]?);
+    laws.push(Box::new(alloc, three)?)?;
     Ok(laws)
 }
 
+// Words, and the text.
+static TABLES: [(&str, &str); 2] = [
+    ("gen t 1 square 1 4", "square,1,4\n-3,2,-3\nend\n"),
+    ("gen u 4 square 1 7", "square,1,7\n-3,5,2,-3,5,2\nend\n"),
+];
+
 #[test]
 fn a_law_of_draws_from_elsewhere(rt: HostRuntime) -> Result<(), Fail> {
-    let line = "gen t 1 square 1 4";
-    let found = drawn(rt.alloc(), line, table(rt.alloc())?)?;
-    let wanted = (Status::Done, "square,1,4\n-3,2,-3\nend\n");
-    expect_answer(&rt, (line, "draws from elsewhere"), &found, wanted);
+    for (line, text) in &TABLES {
+        let found = drawn(rt.alloc(), line, tables(rt.alloc())?)?;
+        let wanted = (Status::Done, *text);
+        expect_answer(&rt, (line, "draws from elsewhere"), &found, wanted);
+    }
     Ok(())
 }

@@ -1,4 +1,4 @@
-//! Tests of the parts below the solver, through their public functions: lists, laws and devices; and, on
+//! Tests of the parts below the solver, through their public functions: lists and devices; and, on
 //! instances read from texts, the tables of the lattices, the faces, the dual graph, the components,
 //! other couplings, the walk that breaks given bonds, and the plain reference solver.
 //!
@@ -15,8 +15,6 @@ mod drawings;
 mod duals;
 #[cfg(test)]
 mod facts;
-#[cfg(test)]
-mod laws;
 #[cfg(test)]
 mod lists;
 #[cfg(test)]

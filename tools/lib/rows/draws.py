@@ -15,6 +15,12 @@ DRAWN = [
     ("gen pm 42 cylinder 1 3", "cylinder,1,3\n-1,-1,1\nend\n"),
     ("gen alternate 18446744073709551615 square 1 2", "square,1,2\n-1\nend\n"),
     ("gen one 007 square 01 002", "square,1,2\n1\nend\n"),
+    # The words of the generator after the seed 42 are a15c02b7, 7b47f409, ba1d3330, 83d2f293, bfa4784b, cbed606e.
+    ("gen one 7 square 1 7", "square,1,7\n1,1,1,1,1,1\nend\n"),
+    ("gen alternate 0 square 1 7", "square,1,7\n1,-1,1,-1,1,-1\nend\n"),
+    ("gen alternate 7 square 1 7", "square,1,7\n-1,1,-1,1,-1,1\nend\n"),
+    ("gen pm 42 square 1 7", "square,1,7\n-1,-1,1,-1,-1,1\nend\n"),
+    ("gen uniform 42 square 1 7", "square,1,7\n787127,-527351,865072,193171,-755637,-171922\nend\n"),
     ("sample uniform 42 2 2", "spins,4\nbonds,4\nsum,2372721\nenergy,-1986379\nbroken,193171\nend\n"),
     ("sample one 0 1 1", "spins,1\nbonds,0\nsum,0\nenergy,0\nbroken,0\nend\n"),
     ("sample one 0 3 3", "spins,9\nbonds,12\nsum,12\nenergy,-12\nbroken,0\nend\n"),
