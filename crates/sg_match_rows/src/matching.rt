@@ -163,7 +163,7 @@ fn all_duals<R: Abort>(rt: &R, arena: &Arena, leaves: u32) -> i64
 }
 
 // The engine's mates cost so much, and so do the duals together. `kept` has the same costs.
-fn costs_so_much<L: Ledger, R: Abort>(
+fn expect_cost<L: Ledger, R: Abort>(
     rt: &R,
     alloc: Global,
     costs: Costs,
@@ -192,11 +192,11 @@ fn meets_least<L: Ledger, R: Abort>(
     let costs = distances(rt, alloc, places)?;
     let kept = distances(rt, alloc, places)?;
     let least = least_plain(rt, &kept);
-    costs_so_much(rt, alloc, costs, &kept, least, steps)
+    expect_cost(rt, alloc, costs, &kept, least, steps)
 }
 
-// An engine over these costs has nothing to do but one step, and its duals sum to this.
-fn is_done_at_once<L: Ledger, R: Abort>(
+// An engine over these costs is done when it first advances, and its duals sum to this.
+fn expect_done<L: Ledger, R: Abort>(
     rt: &R,
     alloc: Global,
     costs: Costs,
@@ -220,7 +220,7 @@ fn matches_two<L: Ledger, R: Abort>(rt: &R, alloc: Global, blank: Blank) -> Resu
     let mut steps = Steps::<L>::new(blank);
     let mut costs = Costs::new(alloc, 2)?;
     costs.set(0, 1, 4);
-    is_done_at_once(rt, alloc, costs, 4, &mut steps)
+    expect_done(rt, alloc, costs, 4, &mut steps)
 }
 
 #[test]
@@ -237,7 +237,7 @@ fn matches_none<L: Ledger, R: Abort>(rt: &R, alloc: Global, blank: Blank) -> Res
 {
     let mut steps = Steps::<L>::new(blank);
     let costs = Costs::new(alloc, 0)?;
-    is_done_at_once(rt, alloc, costs, 0, &mut steps)
+    expect_done(rt, alloc, costs, 0, &mut steps)
 }
 
 #[test]
@@ -269,7 +269,7 @@ fn joins_triangles<L: Ledger, R: Abort>(rt: &R, alloc: Global, blank: Blank) -> 
     let mut steps = Steps::<L>::new(blank);
     let costs = triangles(alloc)?;
     let kept = triangles(alloc)?;
-    costs_so_much(rt, alloc, costs, &kept, 24, &mut steps)
+    expect_cost(rt, alloc, costs, &kept, 24, &mut steps)
 }
 
 #[test]
@@ -331,7 +331,7 @@ fn matches_for_nothing<L: Ledger, R: Abort>(
     let mut steps = Steps::<L>::new(blank);
     let costs = Costs::new(alloc, 4)?;
     let kept = Costs::new(alloc, 4)?;
-    costs_so_much(rt, alloc, costs, &kept, 0, &mut steps)
+    expect_cost(rt, alloc, costs, &kept, 0, &mut steps)
 }
 
 #[test]
