@@ -1,10 +1,13 @@
-//! Tests of the parts below the solver, through their public functions: lists and devices; and, on
+//! Tests of the parts below the solver, through their public functions: lists, devices and laws; and, on
 //! instances read from texts, the tables of the lattices, the faces, the dual graph, the components,
-//! other couplings, the walk that breaks given bonds, and the plain reference solver.
+//! other couplings, the walk that breaks given bonds, and the plain reference solver. Also of the texts
+//! of answers, from values written out.
 //!
 //! Expected values come from outside the program: drawn and counted by hand.
 #![tactic(auto)]
 
+#[cfg(test)]
+mod answers;
 #[cfg(test)]
 mod components;
 #[cfg(test)]
@@ -15,6 +18,8 @@ mod drawings;
 mod duals;
 #[cfg(test)]
 mod facts;
+#[cfg(test)]
+mod laws;
 #[cfg(test)]
 mod lists;
 #[cfg(test)]

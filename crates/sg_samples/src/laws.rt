@@ -1,19 +1,34 @@
-// Commands that draw from laws of disorder other than those of the program.
+// Laws of disorder other than those of the program: which of them a name means, and what they draw.
 ghost use Rattle.std.specs.Prelude.{codes, pos, replicate};
 
-use super::runs::{drawn, expect_answer, no_laws};
-use sg_cli::Status;
-use sg_laws::{Disorder, PlusMinus, Table};
+use super::facts::expect;
+use sg_laws::{Disorder, PlusMinus, Table, draws, named, start};
 use std::alloc::{AllocError, Global};
 use std::test::Fail;
+
+// Whether the first of the laws with this name makes these draws after the seed.
+fn draws_these(
+    alloc: Global,
+    laws: Vec<Box<dyn Disorder>>,
+    name: &str,
+    seed: u64,
+    wanted: &[i64],
+) -> Result<bool, AllocError> {
+    match named(laws, name) {
+        Some(law) => {
+            let mut law = law;
+            start(&mut law, seed);
+            Ok(draws(alloc, &mut law, wanted.len())?.as_slice() == wanted)
+        }
+        None => Ok(false),
+    }
+}
 
 // Without laws no name is one.
 #[test]
 fn a_name_without_laws(rt: HostRuntime) -> Result<(), Fail> {
-    let line = "gen one 0 square 1 1";
-    let found = drawn(rt.alloc(), line, no_laws(rt.alloc()))?;
-    let wanted = (Status::Refused, "refused,17\n");
-    expect_answer(&rt, (line, "no laws"), &found, wanted);
+    let none = Vec::new(rt.alloc());
+    expect(&rt, "no laws", named(none, "one").is_none());
     Ok(())
 }
 
@@ -41,7 +56,7 @@ impl Disorder for Threes {
 
 // The law of the test's own before the one whose name it has.
 fn threes_and_another(alloc: Global) -> Result<Vec<Box<dyn Disorder>>, AllocError> {
-    let mut laws = no_laws(alloc);
+    let mut laws: Vec<Box<dyn Disorder>> = Vec::new(alloc);
     laws.push(Box::new(alloc, Threes {})?)?;
     laws.push(Box::new(alloc, PlusMinus::new())?)?;
     Ok(laws)
@@ -49,16 +64,15 @@ fn threes_and_another(alloc: Global) -> Result<Vec<Box<dyn Disorder>>, AllocErro
 
 #[test]
 fn the_first_law_of_a_name(rt: HostRuntime) -> Result<(), Fail> {
-    let line = "gen pm 42 square 1 2";
-    let found = drawn(rt.alloc(), line, threes_and_another(rt.alloc())?)?;
-    let wanted = (Status::Done, "square,1,2\n3\nend\n");
-    expect_answer(&rt, (line, "the test's own law"), &found, wanted);
+    let laws = threes_and_another(rt.alloc())?;
+    let is_first = draws_these(rt.alloc(), laws, "pm", 42, &[3])?;
+    expect(&rt, "the test's own law", is_first);
     Ok(())
 }
 
 // Laws whose draws are the entries of a table, of two and of three.
 fn tables(alloc: Global) -> Result<Vec<Box<dyn Disorder>>, AllocError> {
-    let mut laws = no_laws(alloc);
+    let mut laws: Vec<Box<dyn Disorder>> = Vec::new(alloc);
     let two = Table::new(String::from_str(alloc, "t")?, vec![in alloc; 2, -3]?);
     laws.push(Box::new(alloc, two)?)?;
     let three = Table::new(String::from_str(alloc, "u")?, vec![in alloc; 2, -3, 5]?);
@@ -66,18 +80,15 @@ fn tables(alloc: Global) -> Result<Vec<Box<dyn Disorder>>, AllocError> {
     Ok(laws)
 }
 
-// Words, and the text.
-static TABLES: [(&str, &str); 2] = [
-    ("gen t 1 square 1 4", "square,1,4\n-3,2,-3\nend\n"),
-    ("gen u 4 square 1 7", "square,1,7\n-3,5,2,-3,5,2\nend\n"),
-];
+// The name, the seed, and the draws.
+static TABLES: [(&str, u64, &[i64]); 2] = [("t", 1, &[-3, 2, -3]), ("u", 4, &[-3, 5, 2, -3, 5, 2])];
 
 #[test]
 fn a_law_of_draws_from_elsewhere(rt: HostRuntime) -> Result<(), Fail> {
-    for (line, text) in &TABLES {
-        let found = drawn(rt.alloc(), line, tables(rt.alloc())?)?;
-        let wanted = (Status::Done, *text);
-        expect_answer(&rt, (line, "draws from elsewhere"), &found, wanted);
+    for (name, seed, wanted) in &TABLES {
+        let laws = tables(rt.alloc())?;
+        let is_wanted = draws_these(rt.alloc(), laws, name, *seed, wanted)?;
+        expect(&rt, name, is_wanted);
     }
     Ok(())
 }
