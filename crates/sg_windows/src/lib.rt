@@ -16,6 +16,7 @@
 mod blocks;
 mod chains;
 mod explorer;
+mod lists;
 mod reduced;
 mod room;
 mod sheet;

@@ -1,6 +1,7 @@
 // The dual without the bonds that are left out, and a ground state on it.
 use super::NoMemory;
 use super::chains::Chains;
+use super::lists::{between, entry_or};
 use super::sheet::{Sheet, first_dart, second_dart};
 use sg_slots::{Slot, entry, number, set_entry};
 use std::alloc::Global;
@@ -108,9 +109,9 @@ impl Reduced {
     fn add_chain(&mut self, sheet: &Sheet, broken: &[bool], chain: u32) -> Result<(), NoMemory> {
         let mut first = Turning::none();
         for place in self.chains.at(chain) {
-            let bond = entry(&self.bonds, *place).unwrap_or(0);
+            let bond = entry_or(&self.bonds, *place, 0);
             set_entry(&mut self.chain_of, bond, Slot::of(chain));
-            let is_broken = entry(broken, bond).unwrap_or(false);
+            let is_broken = entry_or(broken, bond, false);
             first = first.and(turning_of(sheet.coupling(bond), is_broken));
         }
         self.costs.push(first.cost)?;
@@ -130,7 +131,7 @@ impl Reduced {
 
     /// The node on the side of a dart of a chain.
     pub fn side(&self, dart: u32) -> u32 {
-        entry(&self.chains.sides, dart).unwrap_or(0)
+        entry_or(&self.chains.sides, dart, 0)
     }
 
     /// The chain of a bond, if it is in one.
@@ -141,19 +142,19 @@ impl Reduced {
     /// A bond of a chain.
     pub fn bond_of(&self, chain: u32) -> u32 {
         match self.chains.at(chain).first() {
-            Some(place) => entry(&self.bonds, *place).unwrap_or(0),
+            Some(place) => entry_or(&self.bonds, *place, 0),
             None => 0,
         }
     }
 
     /// What it costs to turn a chain from how it was at first.
     pub fn first_cost(&self, chain: u32) -> i64 {
-        entry(&self.costs, chain).unwrap_or(0)
+        entry_or(&self.costs, chain, 0)
     }
 
     // Of how many bonds of a chain nothing is known.
     fn open(&self, chain: u32) -> u32 {
-        entry(&self.open, chain).unwrap_or(0)
+        entry_or(&self.open, chain, 0)
     }
 
     /// Whether nothing is known of some bond of a chain.
@@ -163,7 +164,7 @@ impl Reduced {
 
     /// Whether a chain is turned from how it was at first.
     pub fn is_turned(&self, chain: u32) -> bool {
-        entry(&self.is_turned, chain).unwrap_or(false)
+        entry_or(&self.is_turned, chain, false)
     }
 
     /// What it costs to turn a chain.
@@ -190,7 +191,7 @@ impl Reduced {
         let mut first = 0u32;
         let mut found = false;
         for end in &ends {
-            if self.take_free(piece(&kept, first, *end))? {
+            if self.take_free(between(&kept, first, *end))? {
                 found = true;
             }
             first = *end;
@@ -228,7 +229,7 @@ impl Reduced {
     // Whether one of these chains has turned for the first time since the proposal was begun.
     fn has_new(&self, chains: &[u32]) -> bool {
         for chain in chains {
-            if entry(&self.is_new, *chain).unwrap_or(true) {
+            if entry_or(&self.is_new, *chain, true) {
                 return true;
             }
         }
@@ -245,16 +246,6 @@ impl Reduced {
         set_entry(&mut self.is_new, chain, true);
         true
     }
-}
-
-// The items from a place to another.
-fn piece(list: &[u32], first: u32, behind: u32) -> &[u32] {
-    let first = first as usize;
-    let behind = behind as usize;
-    if first > behind || behind > list.len() {
-        return &[];
-    }
-    &list[first..behind]
 }
 
 // What it costs to turn a bond of which nothing is known.

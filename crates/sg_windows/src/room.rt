@@ -1,5 +1,6 @@
 // The bonds that a nest shows to be rigid, by the room that it leaves at them.
 use super::NoMemory;
+use super::lists::entry_or;
 use super::sheet::{Sheet, first_dart, second_dart};
 use sg_model::Instance;
 use sg_nest::{Nest, Place, Region};
@@ -23,7 +24,7 @@ fn heights_of(alloc: Global, regions: &[Region]) -> Result<Vec<u64>, NoMemory> {
 // The height of a region, if there is one.
 fn height_over(heights: &[u64], region: Option<u32>) -> u64 {
     match region {
-        Some(region) => entry(heights, region).unwrap_or(0),
+        Some(region) => entry_or(heights, region, 0),
         None => 0,
     }
 }
@@ -100,7 +101,7 @@ pub fn names_by_room(
     let mut set = Vec::new(alloc);
     for bond in 0..number(sheet.bonds()) {
         let size = sheet.coupling(bond).unsigned_abs();
-        let is_broken = entry(broken, bond).unwrap_or(true);
+        let is_broken = entry_or(broken, bond, true);
         let load = load_of(sheet, nest, &heights, bond);
         set.push(!is_broken && load < size.wrapping_mul(4))?;
     }

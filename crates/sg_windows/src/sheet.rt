@@ -2,6 +2,7 @@
 ghost use Rattle.sg_faces.specs.Faces.{IsFaceLabels};
 
 use super::NoMemory;
+use super::lists::{entry_or, piece};
 use sg_faces::Faces;
 use sg_model::{Bond, Instance, Spins};
 use sg_slots::{entry, number};
@@ -76,27 +77,22 @@ impl Sheet {
 
     /// The coupling of a bond.
     pub fn coupling(&self, bond: u32) -> i64 {
-        entry(&self.couplings, bond).unwrap_or(0)
+        entry_or(&self.couplings, bond, 0)
     }
 
     /// The spin that a dart leaves.
     pub fn end(&self, dart: u32) -> u32 {
-        entry(&self.ends, dart).unwrap_or(0)
+        entry_or(&self.ends, dart, 0)
     }
 
     /// The face on the side of a dart.
     pub fn side(&self, dart: u32) -> u32 {
-        entry(&self.sides, dart).unwrap_or(0)
+        entry_or(&self.sides, dart, 0)
     }
 
     /// The darts that leave a spin.
     pub fn darts_of(&self, spin: u32) -> &[u32] {
-        let first = entry(&self.starts, spin).unwrap_or(0) as usize;
-        let behind = entry(&self.starts, spin.wrapping_add(1)).unwrap_or(0) as usize;
-        if first > behind || behind > self.darts.len() {
-            return &[];
-        }
-        &self.darts[first..behind]
+        piece(&self.darts, &self.starts, spin)
     }
 
     /// For each bond whether spins break it.

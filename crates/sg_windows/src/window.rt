@@ -1,13 +1,14 @@
 // The ground state of a window in which the open bonds are weakened.
 use super::NoMemory;
 use super::chains::Chains;
+use super::lists::entry_or;
 use super::reduced::{Reduced, Turning};
 use super::sheet::{first_dart, second_dart};
 use sg_graph::EdgeList;
 use sg_growth::{Adjacency, Edge};
 use sg_region_engine::{Engine, Method};
 use sg_region_ways::join_of;
-use sg_slots::{Slot, entry, number, set_entry};
+use sg_slots::{Slot, number, set_entry};
 use sg_work::{Allowance, Unlimited};
 use std::alloc::Global;
 
@@ -29,7 +30,7 @@ impl NodeNames {
 
     // The number of a node, a new one if it has none.
     fn of(&mut self, node: u32) -> Result<u32, NoMemory> {
-        let known = entry(&self.names, node).unwrap_or(Slot::none());
+        let known = entry_or(&self.names, node, Slot::none());
         if let Some(name) = known.number() {
             return Ok(name);
         }
@@ -98,7 +99,7 @@ impl Window {
     fn turning(&self, whole: &Reduced, edge: u32) -> Turning {
         let mut all = Turning::none();
         for place in self.chains.at(edge) {
-            let chain = entry(&self.list, *place).unwrap_or(0);
+            let chain = entry_or(&self.list, *place, 0);
             all = all.and(whole.turning(chain));
         }
         all
@@ -152,8 +153,8 @@ impl Window {
     fn edge(&self, place: u32, weight: i64) -> Edge {
         let sides = &self.chains.sides;
         Edge {
-            first: entry(sides, first_dart(place)).unwrap_or(0),
-            second: entry(sides, second_dart(place)).unwrap_or(0),
+            first: entry_or(sides, first_dart(place), 0),
+            second: entry_or(sides, second_dart(place), 0),
             length: weight.wrapping_mul(2),
         }
     }
@@ -183,7 +184,7 @@ impl Window {
     // Adds the chains of the whole in an edge.
     fn add_chains(&self, edge: u32, list: &mut Vec<u32>) -> Result<(), NoMemory> {
         for place in self.chains.at(edge) {
-            list.push(entry(&self.list, *place).unwrap_or(0))?;
+            list.push(entry_or(&self.list, *place, 0))?;
         }
         Ok(())
     }
@@ -217,7 +218,7 @@ fn join_by(
 
 // Toggles a mark.
 fn turn(marks: &mut [bool], place: u32) {
-    let before = entry(marks, place).unwrap_or(false);
+    let before = entry_or(marks, place, false);
     set_entry(marks, place, !before);
 }
 
@@ -232,8 +233,8 @@ fn odd_nodes(
     for (edge, has) in has.iter().enumerate() {
         if *has {
             let dart = first_dart(number(edge));
-            turn(&mut marks, entry(sides, dart).unwrap_or(0));
-            turn(&mut marks, entry(sides, dart.wrapping_add(1)).unwrap_or(0));
+            turn(&mut marks, entry_or(sides, dart, 0));
+            turn(&mut marks, entry_or(sides, dart.wrapping_add(1), 0));
         }
     }
     marked(alloc, &marks)
@@ -254,7 +255,7 @@ fn marked(alloc: Global, marks: &[bool]) -> Result<Vec<u32>, NoMemory> {
 fn is_free(turnings: &[Turning], marks: &[bool]) -> bool {
     let mut all = Turning::none();
     for (edge, turning) in turnings.iter().enumerate() {
-        if entry(marks, number(edge)).unwrap_or(false) {
+        if entry_or(marks, number(edge), false) {
             all = all.and(*turning);
         }
     }
