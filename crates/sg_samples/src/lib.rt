@@ -1,13 +1,10 @@
 //! Tests of the parts below the solver, through their public functions: lists, devices and laws; and, on
 //! instances read from texts, the tables of the lattices, the faces, the dual graph, the components,
-//! other couplings, the walk that breaks given bonds, and the plain reference solver. Also of the texts
-//! of answers, from values written out.
+//! other couplings, the walk that breaks given bonds, and the plain reference solver.
 //!
 //! Expected values come from outside the program: drawn and counted by hand.
 #![tactic(auto)]
 
-#[cfg(test)]
-mod answers;
 #[cfg(test)]
 mod components;
 #[cfg(test)]

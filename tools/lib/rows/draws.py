@@ -27,6 +27,7 @@ DRAWN = [
     ("ensemble one 0 2 3 3", "wall,0,4\nwall,1,4\nwall,2,4\nsum,12\nsquares,48\nend\n"),
     ("ensemble alternate 0 1 3 2", "wall,0,-2\nwall,1,2\nsum,0\nsquares,8\nend\n"),
     ("widths one 0 2 4 1", "width,3,4,16\nwidth,4,4,16\nend\n"),
+    ("widths alternate 0 1 4 1", "width,3,-2,4\nwidth,4,2,4\nend\n"),
 ]
 
 # Names that no law has.
