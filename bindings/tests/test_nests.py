@@ -154,6 +154,22 @@ class Proofs(unittest.TestCase):
         self.assertTrue(judged(PAIRS, found.energy, found.spins.tolist(), found.nest))
         self.assertTrue(found.check())
 
+    def test_two_squares(self):
+        """Nothing joins them: regions grow over the faces of both, some 240, and one nest proves the state."""
+        source = random.Random(3)
+        count = bond_count("square", 12, 12)
+        squares = [ising2d.Lattice("square", 12, 12, [source.choice((-1, 1)) for _ in range(count)]) for _ in range(2)]
+        bonds, rotation = [], []
+        for part, one in enumerate(squares):
+            joined = zip(pairs(one), one.couplings.tolist())
+            bonds += [(u + 144 * part, v + 144 * part, j) for (u, v), j in joined]
+            rotation += [[int(dart) + 2 * count * part for dart in own] for own in one.darts()]
+        both = ising2d.Graph(288, bonds, rotation)
+        found = both.ground(nest=True)
+        self.assertEqual(found.energy, sum(one.ground().energy for one in squares))
+        self.assertTrue(judged(both, found.energy, found.spins.tolist(), found.nest))
+        self.assertTrue(found.check())
+
     def test_what_is_asked_for(self):
         square = ising2d.Lattice("square", 2, 2, [3, 4, 2, -5])
         both = square.ground(loops=True, nest=True)
