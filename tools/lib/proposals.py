@@ -7,8 +7,8 @@ Outside the gate.
 
 Without `--large` it runs the tests `drawn_lattices` and `drawn_webs` of crates/sg_trials in a copy of the
 repository with more trials; it needs `rt`. They make the proposal and the retry, with cuts and with nests, and
-stop at the first that a judge rejects; each graph is also compared with the matching, and each small lattice
-with all assignments. Many of them have ties: couplings 1 and -1, zeros, equal weights.
+stop at the first that a judge rejects; each graph is also compared with the matching. Many of them have ties:
+couplings 1 and -1, zeros, equal weights.
 
 With `--large` built/libising2d.so (bindings/build) solves the given numbers of lattices of the given sides,
 alternating squares, triangular lattices and cylinders of four laws. gdb counts how often the judge of nests is
@@ -30,7 +30,9 @@ import hits
 import model
 import stopwatch
 from stopwatch import LIBRARY, TOP
-SHAPES, LATTICES, WEBS = 10, "for trial in 0..20 {\n            let text = drawn(", "for trial in 0..150u32 {"
+
+# A round has a lattice of each shape and law.
+ROUND, ROUNDS, WEBS = 50, "const ROUNDS: u32 = 4;", "for trial in 0..150u32 {"
 # What the names of the functions begin with that are counted.
 JUDGE, MATCHING = "sg_nest::judge::Judge::proves", "sg_tjoin::matched::matched_join"
 
@@ -48,7 +50,7 @@ def with_trials(path, loop, few, many):
 
 def small(said):
     """The tests of sg_trials with more trials."""
-    trials = max(1, said.count // SHAPES)
+    rounds = max(1, said.count // ROUND)
     with tempfile.TemporaryDirectory(prefix="proposals-") as room:
         copy = pathlib.Path(room) / "repo"
         copy.mkdir()
@@ -56,11 +58,11 @@ def small(said):
             shutil.copy(TOP / name, copy)
         shutil.copytree(TOP / "crates", copy / "crates", ignore=shutil.ignore_patterns("out"))
         crate = copy / "crates" / "sg_trials"
-        with_trials(crate / "src" / "least.rt", LATTICES, "0..20", f"0..{trials}")
-        with_trials(crate / "src" / "webs.rt", WEBS, "0..150u32", f"0..{said.webs}u32")
+        with_trials(crate / "src" / "lattices.rt", ROUNDS, "4", str(rounds))
+        with_trials(crate / "src" / "webs.rt", WEBS, "150", str(said.webs))
         accepted = all(subprocess.run(["rt", "test", "--", test], cwd=crate).returncode == 0
                        for test in ("drawn_lattices", "drawn_webs"))
-    what = f"{SHAPES * trials} lattices and {said.webs} webs, each asked for two proposals: "
+    what = f"{ROUND * rounds} lattices and {said.webs} webs, each asked for two proposals: "
     print(what + ("all were accepted" if accepted else "NOT all were accepted"))
     return 0 if accepted else 1
 

@@ -1,16 +1,19 @@
-//! Trials of the solver against the plain minimum, on small instances that are read from texts; and of
-//! proposals for minimum T-joins, on the duals of these instances and on other graphs: each must exist
-//! and be good.
+//! Trials of proposals for minimum T-joins, on the duals of worked and drawn instances and on drawn graphs: each must
+//! exist and be good; and of repairs, which must prove the states for which they were made.
 //!
-//! The contract of `sg_ground::solve` says that no assignment has less energy; here both are run. No
-//! clause says that there is a proposal and a retry, that the judges accept them, or that a repair
-//! proves the state for which it was made; these trials test it.
+//! No clause says that there is a proposal and a retry, that the judges accept them, or that a repair
+//! proves the state for which it was made; these trials test it. That the energies are least is proved;
+//! `tools/lib/rows/least.py` compares them with all assignments.
 #![tactic(auto)]
 
 #[cfg(test)]
 mod facts;
 #[cfg(test)]
-mod least;
+mod graphs;
+#[cfg(test)]
+mod instances;
+#[cfg(test)]
+mod lattices;
 #[cfg(test)]
 mod proposals;
 #[cfg(test)]
@@ -19,5 +22,7 @@ mod second;
 mod slices;
 #[cfg(test)]
 mod states;
+#[cfg(test)]
+mod texts;
 #[cfg(test)]
 mod webs;

@@ -4,8 +4,8 @@ ghost use Rattle.sg_graph_text.specs.Network.{IsNetwork};
 ghost use Rattle.sg_ground.specs.Nested.{FitsWeb};
 
 use super::facts::expect;
-use super::least::{drawn_triangles, planar_of};
-use super::webs::{drawn_grid, network_of};
+use super::graphs::{Family, drawn};
+use super::instances::triangles;
 use rand_pcg::Pcg32;
 use sg_graph::{Terminals, Web};
 use sg_graph_text::Network;
@@ -109,8 +109,8 @@ fn assert_second(rt: &impl Abort, alloc: Global, network: &Network) -> Result<()
 #[test]
 fn second_proposals(rt: HostRuntime) -> Result<(), Fail> {
     let mut draws = Pcg32::new(49, 54);
-    let text = drawn_grid(rt.alloc(), 6, 6, 3, &mut draws)?;
-    let network = network_of(&rt, rt.alloc(), text.as_str())?;
+    let grid = Family::Grid { rows: 6, cols: 6 };
+    let network = drawn(&rt, rt.alloc(), grid, 3, &mut draws)?;
     Ok(assert_second(&rt, rt.alloc(), &network)?)
 }
 
@@ -141,7 +141,6 @@ fn assert_second_nest(rt: &impl Abort, alloc: Global, planar: &Planar) -> Result
 #[test]
 fn second_nests(rt: HostRuntime) -> Result<(), Fail> {
     let mut draws = Pcg32::new(50, 54);
-    let text = drawn_triangles(rt.alloc(), 0, &mut draws)?;
-    let planar = planar_of(&rt, rt.alloc(), text.as_str())?;
+    let planar = triangles(rt.alloc(), 0, &mut draws)?;
     Ok(assert_second_nest(&rt, rt.alloc(), &planar)?)
 }

@@ -4,7 +4,7 @@ ghost use Rattle.sg_graph.specs.Join.{AreTerminals};
 ghost use Rattle.sg_graph_text.specs.Network.{IsNetwork};
 
 use super::facts::expect;
-use super::webs::{drawn_grid, network_of};
+use super::graphs::{Family, drawn};
 use rand_pcg::Pcg32;
 use sg_graph::{EdgeList, Terminals, Web};
 use sg_graph_text::Network;
@@ -71,11 +71,18 @@ fn has_least(alloc: Global, network: &Network) -> Result<bool, AllocError>
     }
 }
 
-// There is such a T-join. Whether there were slices.
-fn assert_sliced(rt: &impl Abort, alloc: Global, text: &str) -> Result<bool, Fail> {
-    let network = network_of(rt, alloc, text)?;
+// There is such a T-join of a drawn grid. Whether there were slices.
+fn assert_sliced(
+    rt: &impl Abort,
+    alloc: Global,
+    rows: u32,
+    law: u32,
+    draws: &mut Pcg32,
+) -> Result<bool, AllocError> {
+    let grid = Family::Grid { rows, cols: 45 };
+    let network = drawn(rt, alloc, grid, law, draws)?;
     let is_least = has_least(alloc, &network)?;
-    expect(rt, text, is_least);
+    expect(rt, "a minimum T-join", is_least);
     Ok(network.terminals.len() > BATCH)
 }
 
@@ -84,9 +91,7 @@ fn slices(rt: HostRuntime) -> Result<(), Fail> {
     let mut draws = Pcg32::new(55, 54);
     let mut count = 0u32;
     for trial in 0..12u32 {
-        let rows = 33 + trial;
-        let text = drawn_grid(rt.alloc(), rows, 45, trial % 4 + 1, &mut draws)?;
-        if assert_sliced(&rt, rt.alloc(), text.as_str())? {
+        if assert_sliced(&rt, rt.alloc(), 33 + trial, trial % 4 + 1, &mut draws)? {
             count = count.saturating_add(1);
         }
     }

@@ -6,13 +6,10 @@ ghost use Rattle.sg_model.specs.Ising.{bond_count};
 ghost use Rattle.sg_model.specs.Spins.{IsUpOrDown};
 
 use super::facts::expect;
-use super::least::{SHAPES, WORKED, drawn, planar_of};
-use rand_pcg::Pcg32;
 use sg_bonds::{BondStates, LeastBroken};
-use sg_planar::{Part, Planar, parts};
+use sg_planar::Planar;
 use std::alloc::{AllocError, Global};
 use std::process::Abort;
-use std::test::Fail;
 
 // Asks for a product at a bond, notes the answer if a repair proves one, and says whether it does.
 fn ask(
@@ -94,78 +91,15 @@ fn are_proved(alloc: Global, planar: &Planar, step: usize) -> Result<bool, Alloc
     are_kept(alloc, planar, &mut states, step)
 }
 
-// All states of these parts have to be proved by repairs.
-fn assert_parts(
+/// All these states have to be proved by repairs.
+pub fn assert_repaired(
     rt: &impl Abort,
     alloc: Global,
-    parts: &[Part],
+    planar: &Planar,
     step: usize,
-    text: &str,
+    about: &str,
 ) -> Result<(), AllocError> {
-    for part in parts {
-        let is_proved = are_proved(alloc, &part.planar, step)?;
-        expect(rt, text, is_proved);
-    }
-    Ok(())
-}
-
-// The same for the instance of a text.
-fn assert_repaired(rt: &impl Abort, alloc: Global, step: usize, text: &str) -> Result<(), Fail> {
-    let planar = planar_of(rt, alloc, text)?;
-    let list = parts(alloc, &planar)?;
-    Ok(assert_parts(rt, alloc, list.as_slice(), step, text)?)
-}
-
-#[test]
-fn worked_instances_are_repaired(rt: HostRuntime) -> Result<(), Fail> {
-    for text in &WORKED {
-        assert_repaired(&rt, rt.alloc(), 1, text)?;
-    }
-    Ok(())
-}
-
-// Lattices of some 120 to 260 bonds.
-static LARGER: [(&str, u32); 5] = [
-    ("square,12,12", 264),
-    ("square,2,40", 118),
-    ("triangular,9,9", 208),
-    ("hexagonal,10,10", 135),
-    ("cylinder,8,9", 135),
-];
-
-#[test]
-fn drawn_lattices_are_repaired(rt: HostRuntime) -> Result<(), Fail> {
-    let mut draws = Pcg32::new(47, 54);
-    for (shape, bonds) in &SHAPES {
-        for trial in 0..20 {
-            let text = drawn(rt.alloc(), shape, *bonds, trial % 5, &mut draws)?;
-            assert_repaired(&rt, rt.alloc(), 1, text.as_str())?;
-        }
-    }
-    Ok(())
-}
-
-#[test]
-fn larger_lattices_are_repaired(rt: HostRuntime) -> Result<(), Fail> {
-    let mut draws = Pcg32::new(48, 54);
-    for (shape, bonds) in &LARGER {
-        for kind in 0..5 {
-            let text = drawn(rt.alloc(), shape, *bonds, kind, &mut draws)?;
-            assert_repaired(&rt, rt.alloc(), 1, text.as_str())?;
-        }
-    }
-    Ok(())
-}
-
-// Lattices of more than 129 faces or with a hub: some of their bonds.
-#[test]
-fn large_lattices_are_repaired(rt: HostRuntime) -> Result<(), Fail> {
-    let mut draws = Pcg32::new(52, 54);
-    for (shape, bonds) in [("square,2,90", 268), ("square,20,20", 760)] {
-        for kind in [0, 4] {
-            let text = drawn(rt.alloc(), shape, bonds, kind, &mut draws)?;
-            assert_repaired(&rt, rt.alloc(), 16, text.as_str())?;
-        }
-    }
+    let is_proved = are_proved(alloc, planar, step)?;
+    expect(rt, about, is_proved);
     Ok(())
 }
