@@ -2,8 +2,8 @@ use Rattle.std.proofs.Common.{ap, length, rules, subst, sym, ◌<◌, ◌∙◌}
 use Rattle.std.specs.Prelude.{slice_index_or}
 use Rattle.sg_model.specs.Connected.{IsConnected}
 use Rattle.sg_planar.specs.declared.components.Part.{Part}
-use Rattle.sg_samples.proofs.PartLists.{part_connected}
-use Rattle.sg_samples.proofs.walks.walked_in.Goals as goal
+use Rattle.sg_trials.proofs.PartLists.{part_connected}
+use Rattle.sg_trials.proofs.walks.walked_in.Goals as goal
 
 pub walked-requires : goal.walked-requires
 walked-requires g c =

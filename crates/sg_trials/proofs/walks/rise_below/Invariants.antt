@@ -1,6 +1,6 @@
 -- What was seen rises, below the bound.
 use Rattle.std.proofs.Common.{ℕ, ◌+◌, ◌<◌, get_or}
-use Rattle.sg_samples.proofs.walks.rise_below.Given as goal
+use Rattle.sg_trials.proofs.walks.rise_below.Given as goal
 
 abbrev pub invariant-loop-k : goal.invariant-loop-k
 invariant-loop-k l = record {
