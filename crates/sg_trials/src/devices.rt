@@ -20,31 +20,32 @@ fn calls(alloc: Global, fail: Option<u64>) -> Result<CallList, AllocError> {
     Ok(list)
 }
 
-// What is read of three bytes within a limit, where a call may fail.
-fn read_within(
+// Whether three bytes are read within a limit, or the reading ends so, where a call may fail.
+fn is_read(
     alloc: Global,
     limit: u8,
     fail: Option<u64>,
-) -> Result<Result<Vec<u8>, ReadEnd>, AllocError> {
+    wanted: Option<ReadEnd>,
+) -> Result<bool, AllocError> {
     let fails = calls(alloc, fail)?;
     let bytes = Vec::from_slice(alloc, b"abc")?;
     let mut source = MemSource::new(bytes, 2, fails);
-    Ok(read_all(alloc, &mut source, limit as usize))
+    match read_all(alloc, &mut source, limit as usize) {
+        Ok(found) => Ok(wanted.is_none() && found.as_slice() == b"abc".as_slice()),
+        Err(end) => Ok(wanted.is_some_and(|other| other == end)),
+    }
 }
 
 #[test]
 fn a_source_is_read_to_its_end_within_the_limit(rt: HostRuntime) -> Result<(), Fail> {
-    let whole = read_within(rt.alloc(), 3, None)?;
-    let is_whole = whole.is_ok_and(|found| found.as_slice() == b"abc".as_slice());
-    expect(&rt, "the limit is met", is_whole);
     let rows = [
-        (2, None, ReadEnd::TooLong),
-        (3, Some(1), ReadEnd::ReadFault),
+        (3, None, None),
+        (2, None, Some(ReadEnd::TooLong)),
+        (3, Some(1), Some(ReadEnd::ReadFault)),
     ];
     for (limit, fail, wanted) in rows {
-        let found = read_within(rt.alloc(), limit, fail)?;
-        let is_wanted = found.is_err_and(|end| end == wanted);
-        expect(&rt, "another end", is_wanted);
+        let is_wanted = is_read(rt.alloc(), limit, fail, wanted)?;
+        expect(&rt, "the end", is_wanted);
     }
     Ok(())
 }

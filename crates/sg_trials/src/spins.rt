@@ -2,109 +2,86 @@
 use super::facts::expect;
 use super::texts::{instance, planar};
 use sg_model::{Fault, Instance, least_plain};
-use sg_planar::Planar;
-use std::alloc::{AllocError, Global};
+use std::alloc::Global;
 use std::test::Fail;
 
-// The least energy, and the spins that have it; nothing where there are too many spins.
-fn least(alloc: Global, inst: &Instance) -> Result<Vec<i128>, AllocError> {
-    let mut numbers = Vec::new(alloc);
+// Whether an instance of few spins has this least energy, and these spins have it.
+fn is_least(alloc: Global, inst: &Instance, energy: i128, wanted: &[i8]) -> Result<bool, Fault> {
     if inst.n() > 16 {
-        return Ok(numbers);
+        return Ok(false);
     }
-    let (spins, energy) = least_plain(alloc, inst)?;
-    numbers.push(energy)?;
-    for spin in spins.as_slice() {
-        numbers.push(i128::from(*spin))?;
-    }
-    Ok(numbers)
+    let (spins, least) = least_plain(alloc, inst)?;
+    Ok(least == energy && spins.as_slice() == wanted)
 }
 
 // The same of the instance of a text.
-fn least_of(alloc: Global, text: &str) -> Result<Vec<i128>, Fault> {
+fn is_least_of(alloc: Global, text: &str, energy: i128, wanted: &[i8]) -> Result<bool, Fault> {
     let inst = instance(alloc, text)?;
-    Ok(least(alloc, &inst)?)
+    is_least(alloc, &inst, energy, wanted)
 }
 
-// The couplings, in the order of the bonds.
-fn couplings(alloc: Global, inst: &Instance) -> Result<Vec<i64>, AllocError> {
-    let mut couplings = Vec::new(alloc);
-    for bond in inst.bonds().as_slice() {
-        couplings.push(bond.j)?;
-    }
-    Ok(couplings)
-}
-
-static ROWS: [(&str, &[i128]); 2] = [
-    ("square,1,1\nend\n", &[0, 1]),
-    ("square,2,2\n3,4,2,-5\nend\n", &[-10, 1, 1, -1, -1]),
+static ROWS: [(&str, i128, &[i8]); 2] = [
+    ("square,1,1\nend\n", 0, &[1]),
+    ("square,2,2\n3,4,2,-5\nend\n", -10, &[1, 1, -1, -1]),
 ];
 
 #[test]
 fn the_weakest_bond_breaks(rt: HostRuntime) -> Result<(), Fail> {
-    for (text, wanted) in &ROWS {
-        let numbers = least_of(rt.alloc(), text)?;
-        expect(&rt, text, numbers.as_slice() == *wanted);
+    for (text, energy, wanted) in &ROWS {
+        let is_wanted = is_least_of(rt.alloc(), text, *energy, wanted)?;
+        expect(&rt, text, is_wanted);
     }
     Ok(())
+}
+
+// Whether these are the couplings, in the order of the bonds.
+fn has_couplings(inst: &Instance, wanted: &[i64]) -> bool {
+    let bonds = inst.bonds().as_slice();
+    if bonds.len() != wanted.len() {
+        return false;
+    }
+    for k in 0..wanted.len() {
+        if bonds[k].j != wanted[k] {
+            return false;
+        }
+    }
+    true
 }
 
 // A ring of three spins.
 const RING: &str = "cylinder,1,3\n5,7,2\nend\n";
 
-// The couplings of an instance that was made.
-fn couplings_of(alloc: Global, made: Result<Instance, AllocError>) -> Result<Vec<i64>, AllocError> {
-    let inst = made?;
-    couplings(alloc, &inst)
-}
-
-// Those of the ring with its seam flipped.
-fn flipped(alloc: Global) -> Result<Vec<i64>, Fault> {
+// Whether the sign on the seam of the ring is changed.
+fn is_flipped(alloc: Global) -> Result<bool, Fault> {
     let ring = instance(alloc, RING)?;
-    Ok(couplings_of(alloc, ring.flip_seam())?)
+    let flipped = ring.flip_seam()?;
+    Ok(has_couplings(&flipped, &[5, 7, -2]))
 }
 
-#[test]
-fn the_seam_is_flipped_on_a_copy(rt: HostRuntime) -> Result<(), Fail> {
-    let numbers = flipped(rt.alloc())?;
-    expect(
-        &rt,
-        "couplings",
-        numbers.as_slice() == [5, 7, -2].as_slice(),
-    );
-    Ok(())
-}
-
-// Those of the ring with the coupling 9 on its first bond; none where it has no bond.
-fn with_nine(alloc: Global) -> Result<Vec<i64>, Fault> {
+// Whether the ring has the coupling 9 on its first bond then.
+fn has_nine(alloc: Global) -> Result<bool, Fault> {
     let ring = instance(alloc, RING)?;
     if ring.bonds().is_empty() {
-        return Ok(Vec::new(alloc));
+        return Ok(false);
     }
-    Ok(couplings_of(alloc, ring.with_coupling(0, 9))?)
+    let changed = ring.with_coupling(0, 9)?;
+    Ok(has_couplings(&changed, &[9, 7, 2]))
+}
+
+// Whether every sign of a square is changed.
+fn is_negated(alloc: Global) -> Result<bool, Fault> {
+    let square = planar(alloc, "square,2,2\n3,4\n2,-5\nend\n")?;
+    let opposite = square.negated()?;
+    Ok(has_couplings(opposite.instance(), &[-3, -4, -2, 5]))
 }
 
 #[test]
-fn a_coupling_is_changed_on_a_copy(rt: HostRuntime) -> Result<(), Fail> {
-    let numbers = with_nine(rt.alloc())?;
-    expect(&rt, "couplings", numbers.as_slice() == [9, 7, 2].as_slice());
-    Ok(())
-}
-
-// The couplings with every sign changed.
-fn negated(alloc: Global, planar: &Planar) -> Result<Vec<i64>, AllocError> {
-    let opposite = planar.negated()?;
-    couplings(alloc, opposite.instance())
-}
-
-#[test]
-fn every_sign_is_changed(rt: HostRuntime) -> Result<(), Fail> {
-    let square = planar(rt.alloc(), "square,2,2\n3,4\n2,-5\nend\n")?;
-    let numbers = negated(rt.alloc(), &square)?;
-    expect(
-        &rt,
-        "couplings",
-        numbers.as_slice() == [-3, -4, -2, 5].as_slice(),
-    );
+fn couplings_are_changed_on_a_copy(rt: HostRuntime) -> Result<(), Fail> {
+    let is_seam = is_flipped(rt.alloc())?;
+    expect(&rt, "the seam", is_seam);
+    let is_bond = has_nine(rt.alloc())?;
+    expect(&rt, "one bond", is_bond);
+    let is_all = is_negated(rt.alloc())?;
+    expect(&rt, "every sign", is_all);
     Ok(())
 }

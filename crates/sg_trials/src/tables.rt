@@ -1,61 +1,63 @@
 // The darts round each spin of small lattices, drawn by hand.
 use super::facts::expect;
 use super::texts::instance;
-use sg_model::{Fault, Instance};
-use std::alloc::{AllocError, Global};
+use sg_model::{Fault, Rotation};
+use std::alloc::Global;
 use std::test::Fail;
 
-// How many numbers a list has, and these in their order.
-fn push_list(numbers: &mut Vec<usize>, list: &[u32]) -> Result<(), AllocError> {
-    numbers.push(list.len())?;
-    for number in list {
-        numbers.push(*number as usize)?;
+fn are_lists(lists: &Rotation, rows: &[&[u32]]) -> bool {
+    if lists.len() != rows.len() {
+        return false;
     }
-    Ok(())
+    for spin in 0..rows.len() {
+        if lists.at(spin) != rows[spin] {
+            return false;
+        }
+    }
+    true
 }
 
-// The darts of each spin, and then the seam.
-fn written(alloc: Global, inst: &Instance) -> Result<Vec<usize>, AllocError> {
-    let mut numbers = Vec::new(alloc);
-    for spin in 0..inst.n() {
-        push_list(&mut numbers, inst.rotation().at(spin as usize))?;
-    }
-    push_list(&mut numbers, inst.seam().as_slice())?;
-    Ok(numbers)
-}
-
-// The same of the instance of a text.
-fn written_of(alloc: Global, text: &str) -> Result<Vec<usize>, Fault> {
+// Whether the instance of a text has these darts round each spin, and this seam.
+fn is_laid_out(alloc: Global, text: &str, rows: &[&[u32]], seam: &[u32]) -> Result<bool, Fault> {
     let inst = instance(alloc, text)?;
-    Ok(written(alloc, &inst)?)
+    Ok(are_lists(inst.rotation(), rows) && inst.seam().as_slice() == seam)
 }
 
-static ROWS: [(&str, &[usize]); 4] = [
+static ROWS: [(&str, &[&[u32]], &[u32]); 4] = [
     (
         "square,2,2\n3,4,2,-5\nend\n",
-        &[2, 0, 4, 2, 1, 6, 2, 2, 5, 2, 7, 3, 0],
+        &[&[0, 4], &[1, 6], &[2, 5], &[7, 3]],
+        &[],
     ),
     (
         "triangular,2,2\n-1,-1,-1,-1,-1\nend\n",
-        &[3, 0, 4, 8, 2, 1, 6, 2, 2, 5, 3, 7, 9, 3, 0],
+        &[&[0, 4, 8], &[1, 6], &[2, 5], &[7, 9, 3]],
+        &[],
     ),
     (
         "hexagonal,2,3\n4,5,6,7,3,-8\nend\n",
-        &[2, 0, 8, 2, 2, 1, 2, 3, 10, 2, 4, 9, 2, 6, 5, 2, 11, 7, 0],
+        &[&[0, 8], &[2, 1], &[3, 10], &[4, 9], &[6, 5], &[11, 7]],
+        &[],
     ),
     (
         "cylinder,2,3\n1,2,3,4,5,6,7,8,9\nend\n",
         &[
-            3, 0, 5, 12, 3, 2, 1, 14, 3, 4, 3, 16, 3, 6, 13, 11, 3, 8, 15, 7, 3, 10, 17, 9, 2, 2, 5,
+            &[0, 5, 12],
+            &[2, 1, 14],
+            &[4, 3, 16],
+            &[6, 13, 11],
+            &[8, 15, 7],
+            &[10, 17, 9],
         ],
+        &[2, 5],
     ),
 ];
 
 #[test]
 fn lattices_are_laid_out_row_by_row(rt: HostRuntime) -> Result<(), Fail> {
-    for (text, wanted) in &ROWS {
-        let numbers = written_of(rt.alloc(), text)?;
-        expect(&rt, text, numbers.as_slice() == *wanted);
+    for (text, rows, seam) in &ROWS {
+        let is_wanted = is_laid_out(rt.alloc(), text, rows, seam)?;
+        expect(&rt, text, is_wanted);
     }
     Ok(())
 }

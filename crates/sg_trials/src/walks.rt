@@ -4,9 +4,9 @@ ghost use Rattle.std.specs.List.Sorted.{IsStrictlyIncreasing};
 ghost use Rattle.sg_model.specs.Connected.{IsConnected};
 
 use super::facts::expect;
-use super::texts::instance;
-use sg_model::{BondList, Fault, Spins};
-use sg_planar::{Part, Planar, fits_faces, parts, spin_walk};
+use super::texts::planar;
+use sg_model::{BondList, Fault};
+use sg_planar::{Part, fits_faces, parts, spin_walk};
 use std::alloc::{AllocError, Global};
 use std::process::Abort;
 use std::test::Fail;
@@ -26,13 +26,14 @@ fn rise_below(list: &[u32], bound: usize) -> bool
     true
 }
 
-// The spins of a part that break these of its bonds and no others; none where they do not fit the faces.
-fn walked(
+// Whether these are the spins of a part that break these of its bonds and no others.
+fn is_walked(
     rt: &impl Abort,
     alloc: Global,
     part: &Part,
     broken: &[u32],
-) -> Result<Option<Spins>, AllocError>
+    wanted: &[i8],
+) -> Result<bool, AllocError>
     requires { IsConnected part.now.planar.instance }
 {
     let planar = &part.planar;
@@ -43,26 +44,24 @@ fn walked(
     );
     let list = BondList::from_vec(Vec::from_slice(alloc, broken)?);
     if !fits_faces(alloc, planar, &list)? {
-        return Ok(None);
+        return Ok(false);
     }
-    Ok(Some(spin_walk(alloc, planar, &list)?))
+    Ok(spin_walk(alloc, planar, &list)?.as_slice() == wanted)
 }
 
 // The same for a connected instance that is read from a text.
-fn walked_in(
+fn is_walked_in(
     rt: &impl Abort,
     alloc: Global,
     text: &str,
     broken: &[u32],
-) -> Result<Option<Spins>, Fault> {
-    let inst = instance(alloc, text)?;
-    let Ok(planar) = Planar::new(alloc, inst) else {
-        return Ok(None);
-    };
+    wanted: &[i8],
+) -> Result<bool, Fault> {
+    let planar = planar(alloc, text)?;
     let list = parts(alloc, &planar)?;
     let all = list.as_slice();
     expect(rt, "one part", all.len() == 1);
-    Ok(walked(rt, alloc, &all[0], broken)?)
+    Ok(is_walked(rt, alloc, &all[0], broken, wanted)?)
 }
 
 static ROWS: [(&str, &[u32], &[i8]); 2] = [
@@ -73,9 +72,7 @@ static ROWS: [(&str, &[u32], &[i8]); 2] = [
 #[test]
 fn a_walk_breaks_the_bonds_of_the_list(rt: HostRuntime) -> Result<(), Fail> {
     for (text, broken, wanted) in &ROWS {
-        let found = walked_in(&rt, rt.alloc(), text, broken)?;
-        // Without spins no assignment breaks just these bonds.
-        let is_wanted = found.is_some_and(|spins| spins.as_slice() == *wanted);
+        let is_wanted = is_walked_in(&rt, rt.alloc(), text, broken, wanted)?;
         expect(&rt, text, is_wanted);
     }
     Ok(())
