@@ -1,1 +1,2 @@
-pub mod Slacks
+pub mod RaiseLemmas
+pub mod TotalSlacks

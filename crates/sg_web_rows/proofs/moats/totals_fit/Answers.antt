@@ -2,7 +2,7 @@ use Rattle.std.proofs.Common.{All, arith, length, subst, sym, ◌<◌, ◌≡◌
 use Rattle.std.proofs.lemmas.List.{get_or_read}
 use Rattle.sg_moat.specs.Input.{blank_table, table_at}
 use Rattle.sg_tjoin.specs.Doubled.{Reaches}
-use Rattle.sg_web_rows.proofs.Slacks.{NoSlackIsNegative-totals}
+use Rattle.sg_web_rows.proofs.TotalSlacks.{NoSlackIsNegative-totals}
 use Rattle.sg_web_rows.proofs.moats.totals_fit.Goals as goal
 
 pub row_fits-requires-clause-reaches : goal.row_fits-requires-clause-reaches

@@ -1,7 +1,0 @@
-use Rattle.std.proofs.Common.{◌≡◌}
-use Rattle.sg_arena.specs.Family.{leaf_count}
-use Rattle.sg_match_rows.proofs.blossoms.builds.Given as goal
-
--- no leaf comes or goes
-abbrev pub invariant-loop-row : goal.invariant-loop-row
-invariant-loop-row g l = leaf_count l.arena ≡ 9

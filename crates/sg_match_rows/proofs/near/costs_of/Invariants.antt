@@ -1,6 +1,0 @@
--- `costs_of`: the table keeps its size.
-use Rattle.std.proofs.Common.{◌≡◌}
-use Rattle.sg_match_rows.proofs.near.costs_of.Given as goal
-
-abbrev pub invariant-loop-pair : goal.invariant-loop-pair
-invariant-loop-pair l = l.costs.size ≡ 8
