@@ -9,3 +9,11 @@ pub fn expect(rt: &impl Abort, about: &str, fact: bool)
 {
     assert!(rt; fact, "{about}");
 }
+
+/// Whether a list is the one that is wanted, if any is.
+pub fn is_wanted(list: &[u32], wanted: Option<&[u32]>) -> bool {
+    match wanted {
+        Some(other) => list == other,
+        None => true,
+    }
+}

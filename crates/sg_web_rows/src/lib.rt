@@ -12,6 +12,8 @@ mod allowances;
 #[cfg(test)]
 mod blossoms;
 #[cfg(test)]
+mod costs;
+#[cfg(test)]
 mod distances;
 #[cfg(test)]
 mod facts;

@@ -1,10 +1,11 @@
-ghost use Rattle.std.specs.Prelude.{◌≡◌, ◌↔◌, ℕ, ◌+◌, ◌-◌, ◌<◌, ◌≤◌, IfOk, length, pos};
+ghost use Rattle.std.specs.Prelude.{◌≡◌, ◌↔◌, ℕ, ◌+◌, ◌-◌, ◌<◌, ◌≤◌, length, pos};
 ghost use Rattle.sg_slack.specs.Line.{IsLine};
 ghost use Rattle.sg_slack.specs.Slack.{mark_at, total_at};
 ghost use Rattle.sg_slack.specs.declared.Mark.TheVariants.{Outer};
 
+use super::costs::{SETS, costs_of};
 use super::facts::expect;
-use super::slacks::are_small;
+use super::slacks::{are_small, slack_of};
 use sg_slack::{Costs, Mark, Near, NoMemory, Pair, least_outer_free};
 use std::alloc::Global;
 use std::process::Abort;
@@ -78,67 +79,32 @@ fn agrees<R: Abort>(
     expect(rt, "small costs", are_small(near.costs(), totals));
     let free = near.least(totals, tops, marks);
     let free_scanned = least_outer_free(near.costs(), totals, tops, marks);
-    let slack = free.map(|pair| pair.slack);
-    let slack_scanned = free_scanned.map(|pair| pair.slack);
-    expect(rt, "slack", slack == slack_scanned);
+    expect(rt, "slack", slack_of(free) == slack_of(free_scanned));
     free
 }
 
 // Two leaves at cost 4, of which the first has total 1.
-fn meets_the_other<R: Abort>(rt: &R, alloc: Global) -> Result<(), NoMemory> {
-    let mut costs = Costs::new(alloc, 2)?;
+#[test]
+fn the_nearest_member_is_found(rt: HostRuntime) -> Result<(), NoMemory> {
+    let mut costs = Costs::new(rt.alloc(), 2)?;
     costs.set(0, 1, 4);
-    let mut near = Near::open(alloc, costs)?;
+    let mut near = Near::open(rt.alloc(), costs)?;
     lengthen(&mut near, 0);
     let mut totals = [0; 2];
     let mut marks = [Mark::Free; 2];
-    let found = agrees(rt, &near, 1, &mut totals, &[7, 8], &mut marks);
+    let found = agrees(&rt, &near, 1, &mut totals, &[7, 8], &mut marks);
     let pair = Pair {
         u: 0,
         v: 1,
         slack: 3,
     };
-    expect(rt, "pair", found == Some(pair));
+    expect(&rt, "pair", found == Some(pair));
     Ok(())
-}
-
-#[test]
-fn the_nearest_member_is_found(rt: HostRuntime) -> Result<(), Fail> {
-    meets_the_other(&rt, rt.alloc())?;
-    Ok(())
-}
-
-// The place of a point of one of forty sets.
-fn place_of(t: u32, i: u32) -> (u32, u32) {
-    let i = i % 8;
-    let t = t % 40;
-    (
-        (37 * i * i + 11 * i * t + t) % 23,
-        (17 * i + 5 * t * i) % 19,
-    )
-}
-
-// Twice the distance of two points of a set, along the two axes.
-fn distance(t: u32, i: u32, j: u32) -> i64 {
-    let a = place_of(t, i);
-    let b = place_of(t, j);
-    2 * (i64::from(a.0.abs_diff(b.0)) + i64::from(a.1.abs_diff(b.1)))
-}
-
-// The costs of one of forty sets of eight points.
-fn costs_of(alloc: Global, t: u32) -> Result<Costs, NoMemory>
-    ensures { IfOk result (λ costs. costs.size ≡ 8) }
-{
-    let mut costs = Costs::new(alloc, 8)?;
-    for pair in 0..64u32 {
-        costs.set(pair / 8, pair % 8, distance(t, pair / 8, pair % 8));
-    }
-    Ok(costs)
 }
 
 // The leaves join one after the other. Each is its own top.
-fn grows<R: Abort>(rt: &R, alloc: Global, t: u32) -> Result<(), NoMemory> {
-    let costs = costs_of(alloc, t)?;
+fn grows<R: Abort>(rt: &R, alloc: Global, places: &[u32; 8]) -> Result<(), NoMemory> {
+    let costs = costs_of(alloc, places)?;
     let mut near = Near::open(alloc, costs)?;
     let mut totals = [0; 8];
     let mut marks = [Mark::Free; 8];
@@ -153,9 +119,9 @@ fn grows<R: Abort>(rt: &R, alloc: Global, t: u32) -> Result<(), NoMemory> {
 }
 
 #[test]
-fn forty_sets_are_kept_as_they_are_scanned(rt: HostRuntime) -> Result<(), Fail> {
-    for t in 0..40 {
-        grows(&rt, rt.alloc(), t)?;
+fn slacks_are_kept_as_they_are_scanned(rt: HostRuntime) -> Result<(), Fail> {
+    for (places, _) in &SETS {
+        grows(&rt, rt.alloc(), places)?;
     }
     Ok(())
 }
