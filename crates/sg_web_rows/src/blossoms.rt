@@ -8,7 +8,6 @@ use std::alloc::Global;
 use std::marker::Brand;
 use std::process::Abort;
 use std::sync::ledger::{Blank, Ledger};
-use std::test::Fail;
 
 // A cycle of three tops: link i joins leaf `from[i]` of one to leaf `to[i]` of the next.
 #[derive(Clone, Copy)]
@@ -17,11 +16,12 @@ struct Ring {
     to: [u32; 3],
 }
 
-// A call that changes an arena, with a top named by one of its leaves.
+// A call that changes an arena, with a top named by one of its leaves. For a top that is expanded there are also
+// leaves of its first child.
 #[derive(Clone, Copy)]
 enum Change {
     Shrink(Ring),
-    Expand(u32),
+    Expand(u32, &'static [u32]),
     Lift(u32, i64),
     Lower(u32, i64),
     Shift(u32, u32, i64),
@@ -41,10 +41,17 @@ const C: Ring = Ring {
     from: [6, 7, 8],
     to: [7, 8, 6],
 };
+
 // Enters and leaves each of the three by different leaves.
 const ALL: Ring = Ring {
     from: [0, 4, 8],
     to: [3, 7, 2],
+};
+
+// The first of them and two leaves more.
+const OUTER: Ring = Ring {
+    from: [0, 3, 4],
+    to: [3, 4, 2],
 };
 
 // Shrinks the tops of the ring's leaves.
@@ -156,14 +163,14 @@ fn change_duals<L: Ledger, R: Abort>(
     }
 }
 
-// Expands the top of a leaf.
+// Expands the top of a leaf. Its first child is handed back.
 fn expand_top<L: Ledger, R: Abort>(
     rt: &R,
     arena: &mut Arena,
     k: u32,
     leaf: u32,
     steps: &mut Steps<L>,
-)
+) -> usize
     requires { leaf_count arena.old ≡ k }
     ensures { leaf_count arena.new ≡ k }
 {
@@ -171,7 +178,37 @@ fn expand_top<L: Ledger, R: Abort>(
     let node = arena.top(leaf);
     expect(rt, "a blossom", !arena.is_leaf(node));
     expect(rt, "dual of a blossom to expand", arena.dual(node) == 0);
+    let first = arena.first_child(node);
     arena.expand(node, steps);
+    first
+}
+
+// This is the top of each of these leaves.
+fn expect_tops<R: Abort>(rt: &R, arena: &Arena, k: u32, leaves: &[u32], top: usize)
+    requires { leaf_count arena.now ≡ k }
+{
+    for leaf in leaves {
+        expect(rt, "leaf", *leaf < k);
+        expect(rt, "top of a leaf", arena.top(*leaf) == top);
+    }
+}
+
+// A new blossom has dual 0, is the top of these leaves, and has this first child.
+fn expect_blossom<R: Abort>(
+    rt: &R,
+    arena: &Arena,
+    k: u32,
+    leaves: &[u32],
+    name: usize,
+    first: usize,
+)
+    requires count { leaf_count arena.now ≡ k }
+    requires top { IsTop arena.now name }
+{
+    expect(rt, "dual of a new blossom", arena.dual(name) == 0);
+    expect_tops(rt, arena, k, leaves, name);
+    expect(rt, "a new blossom", !arena.is_leaf(name));
+    expect(rt, "first child", arena.first_child(name) == first);
 }
 
 // Reads a blossom's cycle once round.
@@ -233,230 +270,220 @@ fn apply<L: Ledger, R: Abort>(
 {
     match change {
         Change::Shrink(ring) => {
+            expect(rt, "first leaf", ring.from[0] < k);
+            let first = arena.top(ring.from[0]);
             let name = shrink_ring(rt, arena, k, ring, steps);
-            expect(rt, "dual of a new blossom", arena.dual(name) == 0);
+            expect_blossom(rt, arena, k, &ring.from, name, first);
         }
-        Change::Expand(leaf) => expand_top(rt, arena, k, leaf, steps),
+        Change::Expand(leaf, leaves) => {
+            let first = expand_top(rt, arena, k, leaf, steps);
+            expect_tops(rt, arena, k, leaves, first);
+        }
         _ => change_duals(rt, arena, k, change, steps),
     }
 }
 
-// Three leaves come under one top of dual 0, and are their own tops again.
-fn shrinks_and_expands<L: Ledger, R: Abort>(
-    rt: &R,
-    alloc: Global,
-    blank: Blank,
-) -> Result<(), NoMemory>
-    requires name { blank.name ≡ L.name }
-    requires parts { blank.parts ≡ L.parts }
-    requires some { 0 < L.parts }
-{
-    let mut steps = Steps::<L>::new(blank);
-    let mut arena = Arena::open(alloc, 3)?;
-    let top = shrink_ring(rt, &mut arena, 3, A, &mut steps);
-    expect(rt, "top of leaf 0", arena.top(0) == top);
-    expect(rt, "top of leaf 1", arena.top(1) == top);
-    expect(rt, "top of leaf 2", arena.top(2) == top);
-    expect(rt, "dual of the top", arena.dual(top) == 0);
-    expand_top(rt, &mut arena, 3, 0, &mut steps);
-    for leaf in 0..3 {
-        read_leaf(rt, &arena, leaf, 0, &[]);
-    }
-    Ok(())
-}
-
-#[test]
-fn a_triangle_comes_and_goes(rt: HostRuntime) -> Result<(), Fail> {
-    shrinks_and_expands::<Brand, HostRuntime>(&rt, rt.alloc(), Blank::new(1))?;
-    Ok(())
-}
-
-// A blossom inside a blossom, and the outer one expanded.
-fn nests<L: Ledger, R: Abort>(rt: &R, alloc: Global, blank: Blank) -> Result<(), NoMemory>
-    requires name { blank.name ≡ L.name }
-    requires parts { blank.parts ≡ L.parts }
-    requires some { 0 < L.parts }
-{
-    let mut steps = Steps::<L>::new(blank);
-    let mut arena = Arena::open(alloc, 5)?;
-    let outer = Ring {
-        from: [0, 3, 4],
-        to: [3, 4, 2],
-    };
-    let small = shrink_ring(rt, &mut arena, 5, A, &mut steps);
-    shrink_ring(rt, &mut arena, 5, outer, &mut steps);
-    read_leaf(rt, &arena, 1, 0, &[A, outer]);
-    read_leaf(rt, &arena, 3, 0, &[outer]);
-    expand_top(rt, &mut arena, 5, 4, &mut steps);
-    for leaf in 0..3 {
-        expect(rt, "top", arena.top(leaf) == small);
-        expect(rt, "a blossom", !arena.is_leaf(arena.top(leaf)));
-        read_leaf(rt, &arena, leaf, 0, &[A]);
-    }
-    read_leaf(rt, &arena, 3, 0, &[]);
-    read_leaf(rt, &arena, 4, 0, &[]);
-    Ok(())
-}
-
-#[test]
-fn blossoms_nest(rt: HostRuntime) -> Result<(), Fail> {
-    nests::<Brand, HostRuntime>(&rt, rt.alloc(), Blank::new(1))?;
-    Ok(())
-}
-
-// One leaf as outer, then another as outer and the first as inner.
-fn raises<L: Ledger, R: Abort>(rt: &R, alloc: Global, blank: Blank) -> Result<(), NoMemory>
-    requires name { blank.name ≡ L.name }
-    requires parts { blank.parts ≡ L.parts }
-    requires some { 0 < L.parts }
-{
-    let mut steps = Steps::<L>::new(blank);
-    let mut arena = Arena::open(alloc, 3)?;
-    change_duals(rt, &mut arena, 3, Change::Lift(0, 2), &mut steps);
-    change_duals(rt, &mut arena, 3, Change::Shift(1, 0, 1), &mut steps);
-    expect(rt, "total of leaf 0", arena.total(0) == 1);
-    expect(rt, "total of leaf 1", arena.total(1) == 1);
-    expect(rt, "total of leaf 2", arena.total(2) == 0);
-    Ok(())
-}
-
-#[test]
-fn a_raise_moves_two_duals(rt: HostRuntime) -> Result<(), Fail> {
-    raises::<Brand, HostRuntime>(&rt, rt.alloc(), Blank::new(1))?;
-    Ok(())
-}
-
-// A change of nine leaves, and what is read after it: each total, and how many cycles hold the
-// leaves 0 to 2, 3 to 5 and 6 to 8.
-#[derive(Clone, Copy)]
+// A change, and what is read after it: the total of each leaf, and the cycles that hold the leaves 0 to 2, 3 to 5
+// and 6 to 8, the innermost first.
 struct Row {
     change: Change,
     totals: [i64; 9],
-    cycles: [usize; 3],
+    cycles: [&'static [Ring]; 3],
 }
 
-static ROWS: [Row; 17] = [
-    Row {
-        change: Change::Lift(0, 5),
-        totals: [5, 0, 0, 0, 0, 0, 0, 0, 0],
-        cycles: [0, 0, 0],
-    },
-    Row {
-        change: Change::Lift(3, 4),
-        totals: [5, 0, 0, 4, 0, 0, 0, 0, 0],
-        cycles: [0, 0, 0],
-    },
-    Row {
-        change: Change::Shrink(A),
-        totals: [5, 0, 0, 4, 0, 0, 0, 0, 0],
-        cycles: [1, 0, 0],
-    },
-    Row {
-        change: Change::Shift(1, 3, 2),
-        totals: [7, 2, 2, 2, 0, 0, 0, 0, 0],
-        cycles: [1, 0, 0],
-    },
-    Row {
-        change: Change::Shrink(B),
-        totals: [7, 2, 2, 2, 0, 0, 0, 0, 0],
-        cycles: [1, 1, 0],
-    },
-    Row {
-        change: Change::Shrink(C),
-        totals: [7, 2, 2, 2, 0, 0, 0, 0, 0],
-        cycles: [1, 1, 1],
-    },
-    Row {
-        change: Change::Lift(8, 3),
-        totals: [7, 2, 2, 2, 0, 0, 3, 3, 3],
-        cycles: [1, 1, 1],
-    },
-    Row {
-        change: Change::Shrink(ALL),
-        totals: [7, 2, 2, 2, 0, 0, 3, 3, 3],
-        cycles: [2, 2, 2],
-    },
-    Row {
-        change: Change::Lift(4, 7),
-        totals: [14, 9, 9, 9, 7, 7, 10, 10, 10],
-        cycles: [2, 2, 2],
-    },
-    Row {
-        change: Change::Lower(6, 7),
-        totals: [7, 2, 2, 2, 0, 0, 3, 3, 3],
-        cycles: [2, 2, 2],
-    },
-    Row {
-        change: Change::Expand(2),
-        totals: [7, 2, 2, 2, 0, 0, 3, 3, 3],
-        cycles: [1, 1, 1],
-    },
-    Row {
-        change: Change::Lower(0, 2),
-        totals: [5, 0, 0, 2, 0, 0, 3, 3, 3],
-        cycles: [1, 1, 1],
-    },
-    Row {
-        change: Change::Expand(1),
-        totals: [5, 0, 0, 2, 0, 0, 3, 3, 3],
-        cycles: [0, 1, 1],
-    },
-    Row {
-        change: Change::Shift(5, 7, 3),
-        totals: [5, 0, 0, 5, 3, 3, 0, 0, 0],
-        cycles: [0, 1, 1],
-    },
-    Row {
-        change: Change::Expand(6),
-        totals: [5, 0, 0, 5, 3, 3, 0, 0, 0],
-        cycles: [0, 1, 0],
-    },
-    Row {
-        change: Change::Shrink(A),
-        totals: [5, 0, 0, 5, 3, 3, 0, 0, 0],
-        cycles: [1, 1, 0],
-    },
-    Row {
-        change: Change::Shrink(C),
-        totals: [5, 0, 0, 5, 3, 3, 0, 0, 0],
-        cycles: [1, 1, 1],
-    },
+// Changes of so many leaves, one after another.
+static RUNS: [(u32, &[Row]); 4] = [
+    // Three leaves come under one top, and are their own tops again.
+    (
+        3,
+        &[
+            Row {
+                change: Change::Shrink(A),
+                totals: [0, 0, 0, 0, 0, 0, 0, 0, 0],
+                cycles: [&[A], &[], &[]],
+            },
+            Row {
+                change: Change::Expand(0, &[0]),
+                totals: [0, 0, 0, 0, 0, 0, 0, 0, 0],
+                cycles: [&[], &[], &[]],
+            },
+        ],
+    ),
+    // A blossom inside a blossom, and the outer one expanded.
+    (
+        5,
+        &[
+            Row {
+                change: Change::Shrink(A),
+                totals: [0, 0, 0, 0, 0, 0, 0, 0, 0],
+                cycles: [&[A], &[], &[]],
+            },
+            Row {
+                change: Change::Shrink(OUTER),
+                totals: [0, 0, 0, 0, 0, 0, 0, 0, 0],
+                cycles: [&[A, OUTER], &[OUTER], &[]],
+            },
+            Row {
+                change: Change::Expand(4, &[0, 1, 2]),
+                totals: [0, 0, 0, 0, 0, 0, 0, 0, 0],
+                cycles: [&[A], &[], &[]],
+            },
+        ],
+    ),
+    // One leaf as outer, then another as outer and the first as inner.
+    (
+        3,
+        &[
+            Row {
+                change: Change::Lift(0, 2),
+                totals: [2, 0, 0, 0, 0, 0, 0, 0, 0],
+                cycles: [&[], &[], &[]],
+            },
+            Row {
+                change: Change::Shift(1, 0, 1),
+                totals: [1, 1, 0, 0, 0, 0, 0, 0, 0],
+                cycles: [&[], &[], &[]],
+            },
+        ],
+    ),
+    // Three levels of nine leaves are built, raised, lowered and taken down again, and names are used twice.
+    (
+        9,
+        &[
+            Row {
+                change: Change::Lift(0, 5),
+                totals: [5, 0, 0, 0, 0, 0, 0, 0, 0],
+                cycles: [&[], &[], &[]],
+            },
+            Row {
+                change: Change::Lift(3, 4),
+                totals: [5, 0, 0, 4, 0, 0, 0, 0, 0],
+                cycles: [&[], &[], &[]],
+            },
+            Row {
+                change: Change::Shrink(A),
+                totals: [5, 0, 0, 4, 0, 0, 0, 0, 0],
+                cycles: [&[A], &[], &[]],
+            },
+            Row {
+                change: Change::Shift(1, 3, 2),
+                totals: [7, 2, 2, 2, 0, 0, 0, 0, 0],
+                cycles: [&[A], &[], &[]],
+            },
+            Row {
+                change: Change::Shrink(B),
+                totals: [7, 2, 2, 2, 0, 0, 0, 0, 0],
+                cycles: [&[A], &[B], &[]],
+            },
+            Row {
+                change: Change::Shrink(C),
+                totals: [7, 2, 2, 2, 0, 0, 0, 0, 0],
+                cycles: [&[A], &[B], &[C]],
+            },
+            Row {
+                change: Change::Lift(8, 3),
+                totals: [7, 2, 2, 2, 0, 0, 3, 3, 3],
+                cycles: [&[A], &[B], &[C]],
+            },
+            Row {
+                change: Change::Shrink(ALL),
+                totals: [7, 2, 2, 2, 0, 0, 3, 3, 3],
+                cycles: [&[A, ALL], &[B, ALL], &[C, ALL]],
+            },
+            Row {
+                change: Change::Lift(4, 7),
+                totals: [14, 9, 9, 9, 7, 7, 10, 10, 10],
+                cycles: [&[A, ALL], &[B, ALL], &[C, ALL]],
+            },
+            Row {
+                change: Change::Lower(6, 7),
+                totals: [7, 2, 2, 2, 0, 0, 3, 3, 3],
+                cycles: [&[A, ALL], &[B, ALL], &[C, ALL]],
+            },
+            Row {
+                change: Change::Expand(2, &[0, 1, 2]),
+                totals: [7, 2, 2, 2, 0, 0, 3, 3, 3],
+                cycles: [&[A], &[B], &[C]],
+            },
+            Row {
+                change: Change::Lower(0, 2),
+                totals: [5, 0, 0, 2, 0, 0, 3, 3, 3],
+                cycles: [&[A], &[B], &[C]],
+            },
+            Row {
+                change: Change::Expand(1, &[0]),
+                totals: [5, 0, 0, 2, 0, 0, 3, 3, 3],
+                cycles: [&[], &[B], &[C]],
+            },
+            Row {
+                change: Change::Shift(5, 7, 3),
+                totals: [5, 0, 0, 5, 3, 3, 0, 0, 0],
+                cycles: [&[], &[B], &[C]],
+            },
+            Row {
+                change: Change::Expand(6, &[6]),
+                totals: [5, 0, 0, 5, 3, 3, 0, 0, 0],
+                cycles: [&[], &[B], &[]],
+            },
+            Row {
+                change: Change::Shrink(A),
+                totals: [5, 0, 0, 5, 3, 3, 0, 0, 0],
+                cycles: [&[A], &[B], &[]],
+            },
+            Row {
+                change: Change::Shrink(C),
+                totals: [5, 0, 0, 5, 3, 3, 0, 0, 0],
+                cycles: [&[A], &[B], &[C]],
+            },
+        ],
+    ),
 ];
 
 // Reads every leaf.
-fn read_row<R: Abort>(rt: &R, arena: &Arena, row: Row)
-    requires { leaf_count arena.now ≡ 9 }
+fn read_row<R: Abort>(rt: &R, arena: &Arena, k: u32, row: &Row)
+    requires { leaf_count arena.now ≡ k }
 {
-    let small = [A, B, C];
-    for leaf in 0..9 {
-        let group = leaf as usize / 3;
-        let rings = [small[group], ALL];
-        let count = row.cycles[group];
-        expect(rt, "levels", count <= 2);
-        read_leaf(rt, arena, leaf, row.totals[leaf as usize], &rings[..count]);
+    expect(rt, "few leaves", k <= 9);
+    for leaf in 0..k {
+        let total = row.totals[leaf as usize];
+        let rings = row.cycles[leaf as usize / 3];
+        read_leaf(rt, arena, leaf, total, rings);
     }
 }
 
-// Three levels of nine leaves are built, raised, lowered and taken down again, and names are used
-// twice.
-fn builds<L: Ledger, R: Abort>(rt: &R, alloc: Global, blank: Blank) -> Result<(), NoMemory>
-    requires name { blank.name ≡ L.name }
-    requires parts { blank.parts ≡ L.parts }
-    requires some { 0 < L.parts }
-{
-    let mut steps = Steps::<L>::new(blank);
-    let mut arena = Arena::open(alloc, 9)?;
+// Makes the changes of a run, and reads every leaf after each.
+fn expect_run<L: Ledger, R: Abort>(
+    rt: &R,
+    alloc: Global,
+    k: u32,
+    rows: &[Row],
+    steps: &mut Steps<L>,
+) -> Result<(), NoMemory> {
+    expect(rt, "few leaves", k <= 9);
+    let mut arena = Arena::open(alloc, k)?;
     let room = arena.room();
-    for row in ROWS {
-        apply(rt, &mut arena, 9, row.change, &mut steps);
-        read_row(rt, &arena, row);
+    for row in rows {
+        apply(rt, &mut arena, k, row.change, steps);
+        read_row(rt, &arena, k, row);
         expect(rt, "room", arena.room() == room);
     }
     Ok(())
 }
 
-#[test]
-fn nine_leaves_are_read_after_each_change(rt: HostRuntime) -> Result<(), Fail> {
-    builds::<Brand, HostRuntime>(&rt, rt.alloc(), Blank::new(1))?;
+// Makes all runs.
+fn expect_all<L: Ledger, R: Abort>(rt: &R, alloc: Global, blank: Blank) -> Result<(), NoMemory>
+    requires name { blank.name ≡ L.name }
+    requires parts { blank.parts ≡ L.parts }
+    requires some { 0 < L.parts }
+{
+    let mut steps = Steps::<L>::new(blank);
+    for (k, rows) in &RUNS {
+        expect_run(rt, alloc, *k, rows, &mut steps)?;
+    }
     Ok(())
+}
+
+#[test]
+fn leaves_are_read_after_each_change(rt: HostRuntime) -> Result<(), NoMemory> {
+    expect_all::<Brand, HostRuntime>(&rt, rt.alloc(), Blank::new(1))
 }
