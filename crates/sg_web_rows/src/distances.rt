@@ -2,43 +2,12 @@ ghost use Rattle.std.specs.Prelude.{◌≡◌, ◌<◌};
 ghost use Rattle.sg_graph.specs.Table.{IsTableOf};
 
 use super::facts::expect;
-use super::webs::{BUNDLE, EdgeRow, connected_web, expect_node, web};
+use super::webs::{BUNDLE, EdgeRow, web};
 use sg_dist::{distances, path};
-use sg_graph::{EdgeList, NoMemory, Table, Web};
+use sg_graph::{NoMemory, Table, Web};
 use std::alloc::Global;
 use std::process::Abort;
 use std::test::Fail;
-
-// The edges of the walk to a node, and no edge where it is not reached.
-fn walk_to(alloc: Global, small: &Web, table: &Table, node: u32) -> Result<EdgeList, NoMemory>
-    requires table { IsTableOf small.now table.now }
-    requires node { node < small.now.nodes }
-{
-    if table.reached(node) {
-        path(alloc, small, table, node)
-    } else {
-        Ok(EdgeList::new(alloc))
-    }
-}
-
-#[test]
-fn the_least_of_parallel_edges_is_taken(rt: HostRuntime) -> Result<(), Fail> {
-    let bundle = connected_web(&rt, rt.alloc(), 2, &BUNDLE)?;
-    let table = distances(rt.alloc(), &bundle, 0)?;
-    expect_node(&rt, &table, 0, Some(0), None);
-    expect_node(&rt, &table, 1, Some(2), Some(2));
-    let walk = walk_to(rt.alloc(), &bundle, &table, 1)?;
-    expect(&rt, "walk", walk.as_slice() == [2].as_slice());
-    Ok(())
-}
-
-#[test]
-fn a_node_apart_is_not_reached(rt: HostRuntime) -> Result<(), Fail> {
-    let apart = web(&rt, rt.alloc(), 2, &[])?;
-    let table = distances(rt.alloc(), &apart, 0)?;
-    expect_node(&rt, &table, 1, None, None);
-    Ok(())
-}
 
 // The distance of a node that is not reached.
 const FAR: u64 = u64::MAX;
@@ -54,7 +23,15 @@ fn walk_weight(walk: &[u32], list: &[EdgeRow]) -> u64 {
     weight
 }
 
-// A node is at this distance, or `FAR`, and the walk to it weighs as much.
+// The last edge of a walk, if there is one.
+fn last_of(walk: &[u32]) -> Option<u32> {
+    match walk {
+        [.., last] => Some(*last),
+        [] => None,
+    }
+}
+
+// A node is at this distance, or `FAR`. The walk to it weighs as much, and its last edge is the node's parent.
 fn expect_far(
     rt: &impl Abort,
     alloc: Global,
@@ -68,10 +45,15 @@ fn expect_far(
     requires node { node < small.now.nodes }
 {
     expect(rt, "a node is reached", table.reached(node) == (far < FAR));
+    let parent = table.parent(node);
     if table.reached(node) {
         expect(rt, "distance", table.distance(node).unsigned_abs() == far);
         let walk = path(alloc, small, table, node)?;
-        expect(rt, "walk", walk_weight(walk.as_slice(), list) == far);
+        let edges = walk.as_slice();
+        expect(rt, "walk", walk_weight(edges, list) == far);
+        expect(rt, "last edge of a walk", last_of(edges) == parent);
+    } else {
+        expect(rt, "no parent", parent.is_none());
     }
     Ok(())
 }
@@ -94,13 +76,24 @@ fn agrees(
     Ok(())
 }
 
-// Graphs on five nodes, and the distances from each of them to each, from elsewhere by Floyd and Warshall.
-static WEBS: [(&[EdgeRow], [[u64; 5]; 5]); 10] = [
+// Graphs on five nodes, and the distances from each of them to each, from elsewhere by Floyd and Warshall. Of the
+// parallel edges of the second one is lighter than all others, so that a walk of this weight is that edge.
+static WEBS: [(&[EdgeRow], [[u64; 5]; 5]); 11] = [
     (
         &[],
         [
             [0, FAR, FAR, FAR, FAR],
             [FAR, 0, FAR, FAR, FAR],
+            [FAR, FAR, 0, FAR, FAR],
+            [FAR, FAR, FAR, 0, FAR],
+            [FAR, FAR, FAR, FAR, 0],
+        ],
+    ),
+    (
+        BUNDLE,
+        [
+            [0, 2, FAR, FAR, FAR],
+            [2, 0, FAR, FAR, FAR],
             [FAR, FAR, 0, FAR, FAR],
             [FAR, FAR, FAR, 0, FAR],
             [FAR, FAR, FAR, FAR, 0],

@@ -1,14 +1,11 @@
 // Rows by hand: where the judge says yes, and for each of its tests a proposal that fails that one.
 use super::facts::expect;
-use super::webs::{Graph, terminals_of, web};
+use super::webs::{CutRow, Graph, problem_of};
 use sg_graph::{Cut, Cuts, EdgeList, NoMemory};
 use sg_join_check::{Growth, Growths, NodeList, Proposal, proves_least};
 use std::alloc::Global;
 use std::process::Abort;
 use std::test::Fail;
-
-// The weight of a cut, and its edges.
-type CutRow<'a> = (i64, &'a [u32]);
 
 // Whether a chain begins, and the nodes that change sides.
 type GrowthRow<'a> = (bool, &'a [u32]);
@@ -58,77 +55,14 @@ fn judged(
     graph: &Graph,
     row: &ProposalRow,
 ) -> Result<bool, NoMemory> {
-    let (nodes, edges, ends) = *graph;
-    let small = web(rt, alloc, nodes, edges)?;
-    let terminals = terminals_of(rt, alloc, &small, ends)?;
+    let problem = problem_of(rt, alloc, graph)?;
     let proposed = proposal_of(alloc, row)?;
-    proves_least(alloc, &small, &terminals, &proposed)
-}
-
-// Proposals that the judge says yes to, each with its graph.
-static PROVED: [(&str, Graph, ProposalRow); 8] = [
-    (
-        "a path of three nodes",
-        (3, &[(0, 1, 3), (1, 2, 4)], &[0, 2]),
-        (
-            &[0, 1],
-            &[(6, &[0]), (8, &[1])],
-            &[(true, &[0]), (false, &[1])],
-        ),
-    ),
-    (
-        "parallel edges",
-        (2, &[(0, 1, 5), (1, 0, 3)], &[0, 1]),
-        (&[1], &[(6, &[0, 1])], &[(true, &[1])]),
-    ),
-    (
-        "an edge to itself",
-        (2, &[(0, 0, 7), (0, 1, 2)], &[0, 1]),
-        (&[1], &[(4, &[1])], &[(true, &[0])]),
-    ),
-    ("no terminals", (1, &[(0, 0, 7)], &[]), (&[], &[], &[])),
-    (
-        "edges of weight 0 that go round",
-        (3, &[(0, 1, 0), (1, 2, 0), (2, 0, 0)], &[]),
-        (&[0, 1, 2], &[], &[]),
-    ),
-    (
-        "an edge of weight 0",
-        (2, &[(0, 1, 0)], &[0, 1]),
-        (&[0], &[], &[]),
-    ),
-    (
-        "two components",
-        (4, &[(0, 1, 1), (2, 3, 2)], &[0, 1, 2, 3]),
-        (
-            &[0, 1],
-            &[(2, &[0]), (4, &[1])],
-            &[(true, &[0]), (true, &[2])],
-        ),
-    ),
-    (
-        "a star with its middle",
-        (4, &[(0, 1, 1), (0, 2, 1), (0, 3, 1)], &[0, 1, 2, 3]),
-        (
-            &[0, 1, 2],
-            &[(2, &[0]), (2, &[1]), (2, &[2])],
-            &[(true, &[1]), (true, &[2]), (false, &[2, 3])],
-        ),
-    ),
-];
-
-#[test]
-fn a_join_with_cuts_that_prove_it_is_judged_yes(rt: HostRuntime) -> Result<(), Fail> {
-    for (name, graph, row) in &PROVED {
-        let is_proved = judged(&rt, rt.alloc(), graph, row)?;
-        expect(&rt, name, is_proved);
-    }
-    Ok(())
+    proves_least(alloc, &problem.web, &problem.terminals, &proposed)
 }
 
 // A graph of five nodes, of which no edge ends at the last: the path 0, 1, 2 of weights 3 and 4, two
 // long ways round it, an edge to itself as heavy as the path, and a heavy edge to node 3.
-static SMALL: Graph = (
+const SMALL: Graph = (
     5,
     &[
         (0, 1, 3),
@@ -146,32 +80,105 @@ const JOIN: &[u32] = &[0, 1];
 
 const CUTS: &[CutRow] = &[(6, &[0, 2, 3]), (8, &[1, 2, 3])];
 
-// The growths of the two cuts that prove the path, in several forms.
-static FORMS: [[GrowthRow; 2]; 5] = [
-    [(true, &[0]), (false, &[1, 3])],
-    [(false, &[0]), (false, &[3, 1])],
-    [(true, &[2, 1, 3]), (true, &[2, 4])],
-    [(false, &[0, 4]), (true, &[2])],
-    [(true, &[0, 2, 2]), (false, &[4, 0, 2])],
-];
-
-#[test]
-fn chains_of_any_form_are_judged_yes(rt: HostRuntime) -> Result<(), Fail> {
-    for growths in &FORMS {
-        let row: ProposalRow = (JOIN, CUTS, growths);
-        let is_proved = judged(&rt, rt.alloc(), &SMALL, &row)?;
-        expect(&rt, "a chain", is_proved);
-    }
-    Ok(())
-}
-
 // The growths of these two cuts as one chain.
 const CHAIN: &[GrowthRow] = &[(true, &[0]), (false, &[1, 3])];
 
-// For each test of the judge a proposal that fails that one.
-static REFUSED: [(&str, ProposalRow); 20] = [
+// Proposals, each with its graph and whether the judge says yes. First some that it says yes to, then chains of any
+// form, then for each of its tests a proposal that fails that one.
+static ROWS: [(&str, Graph, ProposalRow, bool); 33] = [
+    (
+        "a path of three nodes",
+        (3, &[(0, 1, 3), (1, 2, 4)], &[0, 2]),
+        (
+            &[0, 1],
+            &[(6, &[0]), (8, &[1])],
+            &[(true, &[0]), (false, &[1])],
+        ),
+        true,
+    ),
+    (
+        "parallel edges",
+        (2, &[(0, 1, 5), (1, 0, 3)], &[0, 1]),
+        (&[1], &[(6, &[0, 1])], &[(true, &[1])]),
+        true,
+    ),
+    (
+        "an edge to itself",
+        (2, &[(0, 0, 7), (0, 1, 2)], &[0, 1]),
+        (&[1], &[(4, &[1])], &[(true, &[0])]),
+        true,
+    ),
+    (
+        "no terminals",
+        (1, &[(0, 0, 7)], &[]),
+        (&[], &[], &[]),
+        true,
+    ),
+    (
+        "edges of weight 0 that go round",
+        (3, &[(0, 1, 0), (1, 2, 0), (2, 0, 0)], &[]),
+        (&[0, 1, 2], &[], &[]),
+        true,
+    ),
+    (
+        "an edge of weight 0",
+        (2, &[(0, 1, 0)], &[0, 1]),
+        (&[0], &[], &[]),
+        true,
+    ),
+    (
+        "two components",
+        (4, &[(0, 1, 1), (2, 3, 2)], &[0, 1, 2, 3]),
+        (
+            &[0, 1],
+            &[(2, &[0]), (4, &[1])],
+            &[(true, &[0]), (true, &[2])],
+        ),
+        true,
+    ),
+    (
+        "a star with its middle",
+        (4, &[(0, 1, 1), (0, 2, 1), (0, 3, 1)], &[0, 1, 2, 3]),
+        (
+            &[0, 1, 2],
+            &[(2, &[0]), (2, &[1]), (2, &[2])],
+            &[(true, &[1]), (true, &[2]), (false, &[2, 3])],
+        ),
+        true,
+    ),
+    (
+        "one chain",
+        SMALL,
+        (JOIN, CUTS, &[(true, &[0]), (false, &[1, 3])]),
+        true,
+    ),
+    (
+        "a chain without a fresh growth",
+        SMALL,
+        (JOIN, CUTS, &[(false, &[0]), (false, &[3, 1])]),
+        true,
+    ),
+    (
+        "two chains, the first on the far side",
+        SMALL,
+        (JOIN, CUTS, &[(true, &[2, 1, 3]), (true, &[2, 4])]),
+        true,
+    ),
+    (
+        "two chains",
+        SMALL,
+        (JOIN, CUTS, &[(false, &[0, 4]), (true, &[2])]),
+        true,
+    ),
+    (
+        "nodes that change sides twice",
+        SMALL,
+        (JOIN, CUTS, &[(true, &[0, 2, 2]), (false, &[4, 0, 2])]),
+        true,
+    ),
     (
         "more cuts than one a node and three for two terminals",
+        SMALL,
         (
             &[0, 1],
             &[
@@ -197,88 +204,140 @@ static REFUSED: [(&str, ProposalRow); 20] = [
                 (false, &[]),
             ],
         ),
+        false,
     ),
-    ("a join that does not rise", (&[1, 0], CUTS, CHAIN)),
-    ("a join out of range", (&[0, 1, 6], CUTS, CHAIN)),
-    ("a join that misses the terminals", (&[4], CUTS, CHAIN)),
-    ("a join that is too heavy", (&[2], CUTS, CHAIN)),
-    ("no join", (&[], CUTS, CHAIN)),
+    (
+        "a join that does not rise",
+        SMALL,
+        (&[1, 0], CUTS, CHAIN),
+        false,
+    ),
+    (
+        "a join out of range",
+        SMALL,
+        (&[0, 1, 6], CUTS, CHAIN),
+        false,
+    ),
+    (
+        "a join that misses the terminals",
+        SMALL,
+        (&[4], CUTS, CHAIN),
+        false,
+    ),
+    (
+        "a join that is too heavy",
+        SMALL,
+        (&[2], CUTS, CHAIN),
+        false,
+    ),
+    ("no join", SMALL, (&[], CUTS, CHAIN), false),
     (
         "a cut that does not rise",
+        SMALL,
         (&[0, 1], &[(6, &[2, 0, 3]), (8, &[1, 2, 3])], CHAIN),
+        false,
     ),
     (
         "a cut with an edge twice",
+        SMALL,
         (&[0, 1], &[(6, &[0, 2, 2, 3]), (8, &[1, 2, 3])], CHAIN),
+        false,
     ),
     (
         "a cut out of range",
+        SMALL,
         (&[0, 1], &[(6, &[0, 2, 3, 6]), (8, &[1, 2, 3])], CHAIN),
+        false,
     ),
     (
         "a cut of weight 0",
+        SMALL,
         (
             &[0, 1],
             &[(6, &[0, 2, 3]), (8, &[1, 2, 3]), (0, &[1, 2, 3])],
             &[(true, &[0]), (false, &[1, 3]), (false, &[])],
         ),
+        false,
     ),
     (
         "a cut of negative weight",
+        SMALL,
         (&[0, 1], &[(6, &[0, 2, 3]), (-8, &[1, 2, 3])], CHAIN),
+        false,
     ),
     (
         "too large a load",
+        SMALL,
         (&[0, 1], &[(7, &[0, 2, 3]), (7, &[1, 2, 3])], CHAIN),
+        false,
     ),
     (
         "too large a load of two cuts",
+        SMALL,
         (
             &[0, 1],
             &[(6, &[0, 2, 3]), (7, &[1, 2, 3]), (1, &[0, 2, 3])],
             &[(true, &[0]), (false, &[1, 3]), (false, &[1, 3])],
         ),
+        false,
     ),
     (
         "a sum that is less than twice the join",
+        SMALL,
         (&[0, 1], &[(6, &[0, 2, 3])], &[(true, &[0])]),
+        false,
     ),
     (
         "an even number of terminals inside",
+        SMALL,
         (
             &[0, 1],
             &[(6, &[0, 2, 3]), (8, &[5])],
             &[(true, &[0]), (true, &[3])],
         ),
+        false,
     ),
     (
         "a cut that lacks an edge",
+        SMALL,
         (&[0, 1], &[(6, &[0, 2]), (8, &[1, 2, 3])], CHAIN),
+        false,
     ),
     (
         "a cut with an edge more",
+        SMALL,
         (&[0, 1], &[(6, &[0, 2, 3, 5]), (8, &[1, 2, 3])], CHAIN),
+        false,
     ),
-    ("a growth less", (&[0, 1], CUTS, &[(true, &[0])])),
+    (
+        "a growth less",
+        SMALL,
+        (&[0, 1], CUTS, &[(true, &[0])]),
+        false,
+    ),
     (
         "a growth more",
+        SMALL,
         (
             &[0, 1],
             CUTS,
             &[(true, &[0]), (false, &[1, 3]), (true, &[])],
         ),
+        false,
     ),
     (
         "a node that is none",
+        SMALL,
         (&[0, 1], CUTS, &[(true, &[0]), (false, &[1, 3, 5])]),
+        false,
     ),
 ];
 
 #[test]
-fn each_test_of_the_judge_says_no(rt: HostRuntime) -> Result<(), Fail> {
-    for (name, row) in &REFUSED {
-        let is_proved = judged(&rt, rt.alloc(), &SMALL, row)?;
-        expect(&rt, name, !is_proved);
+fn proposals_are_judged(rt: HostRuntime) -> Result<(), Fail> {
+    for (name, graph, row, wanted) in &ROWS {
+        let is_proved = judged(&rt, rt.alloc(), graph, row)?;
+        expect(&rt, name, is_proved == *wanted);
     }
     Ok(())
 }

@@ -11,17 +11,16 @@ ghost use Rattle.sg_pairing.specs.Matching.{NoSlackIsNegative};
 ghost use Rattle.sg_tjoin.specs.Doubled.{AreMetric, Reaches};
 
 use super::facts::expect;
-use super::webs::{BUNDLE, EdgeRow, connected_web, cut_sum, terminals_of};
+use super::webs::{BUNDLE, CutRow, Graph, connected_problem};
 use sg_arena::Arena;
 use sg_dist::distances;
-use sg_graph::{Cut, Cuts, Table, Terminals, Web};
+use sg_graph::{Cuts, Table, Terminals, Web};
 use sg_moat::{NoMemory, levels};
 use sg_steps::Steps;
 use std::alloc::Global;
 use std::marker::Brand;
 use std::process::Abort;
 use std::sync::ledger::{Blank, Ledger};
-use std::test::Fail;
 
 // A table of distances from each terminal.
 fn tables_of(alloc: Global, web: &Web, terminals: &[u32]) -> Result<Vec<Table>, NoMemory>
@@ -111,70 +110,57 @@ fn cuts_of(
     levels(alloc, web, terminals, &tables, family)
 }
 
-// The cuts of a family that has the dual 4 on the first of two terminals alone.
-fn cuts_round_the_first<L: Ledger, R: Abort>(
+// The cuts are these.
+fn expect_cuts(rt: &impl Abort, cuts: &Cuts, wanted: &[CutRow]) {
+    expect(rt, "number of cuts", cuts.len() == wanted.len());
+    for i in 0..wanted.len() {
+        let (weight, edges) = wanted[i];
+        let cut = cuts.at(i);
+        expect(rt, "weight of a cut", cut.y == weight);
+        expect(rt, "edges of a cut", cut.edges.as_slice() == edges);
+    }
+}
+
+// A family that has the dual 4 on the first of two terminals alone gives these cuts.
+fn expect_row<L: Ledger, R: Abort>(
     rt: &R,
     alloc: Global,
-    count: u32,
-    list: &[EdgeRow],
-    ends: [u32; 2],
-    blank: Blank,
-) -> Result<Cuts, NoMemory>
+    graph: &Graph,
+    wanted: &[CutRow],
+    steps: &mut Steps<L>,
+) -> Result<(), NoMemory> {
+    let problem = connected_problem(rt, alloc, graph)?;
+    expect(rt, "two terminals", problem.terminals.len() == 2);
+    let family = four_and_none(rt, alloc, steps)?;
+    let cuts = cuts_of(rt, alloc, &problem.web, &problem.terminals, &family)?;
+    expect_cuts(rt, &cuts, wanted);
+    Ok(())
+}
+
+// Graphs with two terminals, and the cuts. Between two nodes the whole dual lies on one cut of all edges. In the
+// triangle node 1 is at depth 2 of the set at node 0, and node 2 at 4 or more, so there is a cut at 2 and one at 4.
+static ROWS: [(Graph, &[CutRow]); 2] = [
+    ((2, BUNDLE, &[0, 1]), &[(4, &[0, 1, 2, 3])]),
+    (
+        (3, &[(0, 1, 1), (1, 2, 2), (0, 2, 3)], &[0, 2]),
+        &[(2, &[0, 2]), (2, &[1, 2])],
+    ),
+];
+
+// All rows.
+fn expect_all<L: Ledger, R: Abort>(rt: &R, alloc: Global, blank: Blank) -> Result<(), NoMemory>
     requires name { blank.name ≡ L.name }
     requires parts { blank.parts ≡ L.parts }
     requires some { 0 < L.parts }
 {
     let mut steps = Steps::<L>::new(blank);
-    let small = connected_web(rt, alloc, count, list)?;
-    let terminals = terminals_of(rt, alloc, &small, &ends)?;
-    let family = four_and_none(rt, alloc, &mut steps)?;
-    cuts_of(rt, alloc, &small, &terminals, &family)
-}
-
-// Each cut has all the edges between the two nodes, and together they weigh as much as the dual.
-fn cuts_all_edges<L: Ledger, R: Abort>(rt: &R, alloc: Global, blank: Blank) -> Result<(), NoMemory>
-    requires name { blank.name ≡ L.name }
-    requires parts { blank.parts ≡ L.parts }
-    requires some { 0 < L.parts }
-{
-    let cuts = cuts_round_the_first::<L, R>(rt, alloc, 2, &BUNDLE, [0, 1], blank)?;
-    for cut in cuts.as_slice() {
-        let edges = cut.edges.as_slice();
-        expect(rt, "all edges", edges == [0, 1, 2, 3].as_slice());
+    for (graph, wanted) in &ROWS {
+        expect_row(rt, alloc, graph, wanted, &mut steps)?;
     }
-    expect(rt, "sum of the cuts", cut_sum(&cuts) == 4);
     Ok(())
 }
 
 #[test]
-fn a_dual_is_spread_over_cuts_between_the_terminals(rt: HostRuntime) -> Result<(), Fail> {
-    cuts_all_edges::<Brand, HostRuntime>(&rt, rt.alloc(), Blank::new(1))?;
-    Ok(())
-}
-
-// A cut has the weight 2 and these edges.
-fn expect_two<R: Abort>(rt: &R, cut: &Cut, edges: &[u32]) {
-    expect(rt, "weight of a cut", cut.y == 2);
-    expect(rt, "edges of a cut", cut.edges.as_slice() == edges);
-}
-
-static TRIANGLE: [EdgeRow; 3] = [(0, 1, 1), (1, 2, 2), (0, 2, 3)];
-
-// A set at node 0 with the dual 4: node 1 is at depth 2, and node 2 at 4 or more.
-fn cuts_by_depth<L: Ledger, R: Abort>(rt: &R, alloc: Global, blank: Blank) -> Result<(), NoMemory>
-    requires name { blank.name ≡ L.name }
-    requires parts { blank.parts ≡ L.parts }
-    requires some { 0 < L.parts }
-{
-    let cuts = cuts_round_the_first::<L, R>(rt, alloc, 3, &TRIANGLE, [0, 2], blank)?;
-    expect(rt, "number of cuts", cuts.len() == 2);
-    expect_two(rt, cuts.at(0), &[0, 2]);
-    expect_two(rt, cuts.at(1), &[1, 2]);
-    Ok(())
-}
-
-#[test]
-fn each_depth_and_the_dual_give_a_cut(rt: HostRuntime) -> Result<(), Fail> {
-    cuts_by_depth::<Brand, HostRuntime>(&rt, rt.alloc(), Blank::new(1))?;
-    Ok(())
+fn each_depth_and_the_dual_give_a_cut(rt: HostRuntime) -> Result<(), NoMemory> {
+    expect_all::<Brand, HostRuntime>(&rt, rt.alloc(), Blank::new(1))
 }

@@ -1,11 +1,11 @@
-// Weighted graphs of a few edges, terminals among their nodes, and their cuts.
-ghost use Rattle.std.specs.Prelude.{◌≡◌, ◌<◌, ◌≤◌, ◌%◌, length, IfOk};
+// Weighted graphs of a few edges, and terminals among their nodes.
+ghost use Rattle.std.specs.Prelude.{◌≡◌, ◌≤◌, ◌%◌, length, IfOk};
 ghost use Rattle.sg_graph.specs.Join.{AreTerminals};
 ghost use Rattle.sg_graph.specs.Walk.{IsConnectedWeb};
 ghost use Rattle.sg_graph.specs.Web.{IsEdge, total_weight, weight_at};
 
 use super::facts::expect;
-use sg_graph::{Cuts, Edge, Edges, NoMemory, Table, Terminals, Web, connected};
+use sg_graph::{Edge, Edges, NoMemory, Terminals, Web, connected};
 use sg_sums::{all_below, is_rising};
 use std::alloc::Global;
 use std::process::Abort;
@@ -13,11 +13,30 @@ use std::process::Abort;
 /// An edge as its two ends and its weight.
 pub type EdgeRow = (u32, u32, i64);
 
-/// Four edges between two nodes.
-pub static BUNDLE: [EdgeRow; 4] = [(0, 1, 3), (1, 0, 4), (1, 0, 2), (0, 1, 5)];
+/// Four edges between two nodes. Only tables name it, since a body would build it anew.
+pub const BUNDLE: &[EdgeRow] = &[(0, 1, 3), (1, 0, 4), (1, 0, 2), (0, 1, 5)];
 
 /// The number of nodes, the edges, and the terminals.
 pub type Graph<'a> = (u32, &'a [EdgeRow], &'a [u32]);
+
+/// The weight of a cut, and its edges.
+pub type CutRow<'a> = (i64, &'a [u32]);
+
+/// A graph with terminals among its nodes.
+pub struct Problem {
+    pub web: Web,
+    pub terminals: Terminals,
+}
+
+// An explicit `Drop`: otherwise each exit of a function that owns one drops both lists.
+impl Drop for Problem {
+    fn drop(self) {
+        let Problem {
+            web: _web,
+            terminals: _terminals,
+        } = self;
+    }
+}
 
 // An edge of small weight.
 fn edge(rt: &impl Abort, nodes: u32, a: u32, b: u32, w: i64) -> Edge
@@ -46,25 +65,8 @@ pub fn web(rt: &impl Abort, alloc: Global, nodes: u32, list: &[EdgeRow]) -> Resu
     Ok(Web::new(nodes, edges))
 }
 
-/// The same of a graph that has to be connected.
-pub fn connected_web(
-    rt: &impl Abort,
-    alloc: Global,
-    nodes: u32,
-    list: &[EdgeRow],
-) -> Result<Web, NoMemory>
-    ensures nodes { IfOk result (λ made. made.nodes ≡ nodes) }
-    ensures light { IfOk result (λ made. total_weight made ≤ 10000) }
-    ensures connected { IfOk result IsConnectedWeb }
-{
-    let made = web(rt, alloc, nodes, list)?;
-    let is_connected = connected(alloc, &made)?;
-    expect(rt, "connected", is_connected);
-    Ok(made)
-}
-
-/// These nodes of a graph as its terminals: an even number that rises.
-pub fn terminals_of(
+// These nodes of a graph as its terminals: an even number that rises.
+fn terminals_of(
     rt: &impl Abort,
     alloc: Global,
     web: &Web,
@@ -84,30 +86,30 @@ pub fn terminals_of(
     Ok(Terminals::from_vec(Vec::from_slice(alloc, ends)?))
 }
 
-/// A node of a table has this distance, if it is reached, and this edge to its parent.
-pub fn expect_node(
-    rt: &impl Abort,
-    table: &Table,
-    node: u32,
-    distance: Option<i64>,
-    parent: Option<u32>,
-)
-    requires { node < length table.now.to }
+/// A graph with its terminals.
+pub fn problem_of(rt: &impl Abort, alloc: Global, graph: &Graph) -> Result<Problem, NoMemory>
+    ensures terminals { IfOk result (λ made. AreTerminals made.web made.terminals) }
+    ensures even { IfOk result (λ made. length made.terminals % 2 ≡ 0) }
+    ensures light { IfOk result (λ made. total_weight made.web ≤ 10000) }
 {
-    let found = if table.reached(node) {
-        Some(table.distance(node))
-    } else {
-        None
-    };
-    expect(rt, "distance", found == distance);
-    expect(rt, "parent", table.parent(node) == parent);
+    let (nodes, list, ends) = *graph;
+    let small = web(rt, alloc, nodes, list)?;
+    let terminals = terminals_of(rt, alloc, &small, ends)?;
+    Ok(Problem {
+        web: small,
+        terminals,
+    })
 }
 
-/// The sum of the weights of the cuts.
-pub fn cut_sum(cuts: &Cuts) -> i64 {
-    let mut sum = 0i64;
-    for cut in cuts.as_slice() {
-        sum = sum.saturating_add(cut.y);
-    }
-    sum
+/// The same of a graph that has to be connected.
+pub fn connected_problem(rt: &impl Abort, alloc: Global, graph: &Graph) -> Result<Problem, NoMemory>
+    ensures connected { IfOk result (λ made. IsConnectedWeb made.web) }
+    ensures terminals { IfOk result (λ made. AreTerminals made.web made.terminals) }
+    ensures even { IfOk result (λ made. length made.terminals % 2 ≡ 0) }
+    ensures light { IfOk result (λ made. total_weight made.web ≤ 10000) }
+{
+    let problem = problem_of(rt, alloc, graph)?;
+    let is_connected = connected(alloc, &problem.web)?;
+    expect(rt, "connected", is_connected);
+    Ok(problem)
 }
