@@ -1,14 +1,7 @@
 -- What two assignments say of the product of two spins, along paths of bonds.
-use Rattle.std.proofs.Common.{◌≡◌, ◌⊎◌, inl, inr, ℕ, ◌<◌, Bool, true, ℤ, pos, neg_ℤ, ◌*ℤ◌, List, [], ◌∷◌, sym, ◌∙◌, ap₂, length, arith, subst}
+use Rattle.sg_bonds.proofs.Common.{◌≡◌, ◌⊎◌, inl, inr, ℕ, ◌<◌, Bool, true, ℤ, pos, neg_ℤ, ◌*ℤ◌, List, [], ◌∷◌, sym, ◌∙◌, ap₂, length, arith, subst, cases_lt}
+use Rattle.sg_bonds.proofs.Common.{ints, get_or_past, Ising, bond_at, bond_count, IsInstance, IsUpOrDown, IsAssignment, spin, product, IsWalk, JoinedBy}
 use Rattle.std.proofs.Math.IntN.{*ℤ_comm}
-use Rattle.std.proofs.lemmas.Bool.{cases_lt}
-use Rattle.std.proofs.lemmas.Int.{ints}
-use Rattle.std.proofs.lemmas.List.{get_or_past}
-use Rattle.sg_model.specs.Ising.{Ising, bond_at, bond_count}
-use Rattle.sg_model.specs.WellFormed.{IsInstance}
-use Rattle.sg_model.specs.Spins.{IsUpOrDown, IsAssignment, spin}
-use Rattle.sg_model.specs.Energy.{product}
-use Rattle.sg_model.specs.Connected.{IsWalk, JoinedBy}
 use Rattle.sg_bonds.proofs.ForcedMinimum.{same_or_opposite, unit_product}
 
 through : (x y z : ℤ) → IsUpOrDown x → IsUpOrDown y → IsUpOrDown z → x *ℤ z ≡ (x *ℤ y) *ℤ (y *ℤ z)

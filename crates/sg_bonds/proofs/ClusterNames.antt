@@ -1,8 +1,5 @@
 -- Names of clusters: the costs show the rigid bonds, and the names over these are the clusters.
-use Rattle.std.proofs.Common.{◌≡◌, ◌↔◌, ℕ, ◌+◌, ◌<◌, ℤ, pos, ◌<ℤ◌, Bool, true, false, List, [], ◌∷◌, ◌++◌, length, get_or, ◌∙◌, ap, subst, arith, IsTrue}
-use Rattle.std.proofs.lemmas.List.{length_push}
-use Rattle.sg_model.specs.Ising.{Ising}
-use Rattle.sg_walk.specs.Walk.{has}
+use Rattle.sg_bonds.proofs.Common.{◌≡◌, ◌↔◌, ℕ, ◌+◌, ◌<◌, ℤ, pos, ◌<ℤ◌, Bool, true, false, List, [], ◌∷◌, ◌++◌, length, get_or, ◌∙◌, ap, subst, arith, IsTrue, length_push, Ising, has}
 use Rattle.sg_bonds.proofs.OneCost.{cost-one}
 use Rattle.sg_bonds.proofs.OneEntry.{push_each}
 use Rattle.sg_bonds.specs.Cost.{AreCosts, IsRigid}

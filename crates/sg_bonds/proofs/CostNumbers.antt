@@ -1,14 +1,9 @@
 -- The cost of a bond, from the least energy with the product that a ground state does not have.
-use Rattle.std.proofs.Common.{◌≡◌, inl, inr, ℕ, ◌+◌, ◌*◌, ◌<◌, ◌≤◌, ◌^◌, ℤ, pos, negsuc, neg_ℤ, ◌+ℤ◌, ◌-ℤ◌, ◌*ℤ◌, List, [], ◌∷◌, ◌++◌, length, get_or, refl, sym, ◌∙◌, ap, ap₂, subst, arith, Some, to_z, of_z, w64}
-use Rattle.std.specs.Prelude.{FitsSigned, slice_get, unsigned_abs}
-use Rattle.std.proofs.lemmas.Int.{ints, fits_signed_from_abs, to_z-of_z}
+use Rattle.sg_bonds.proofs.Common.{◌≡◌, inl, inr, ℕ, ◌+◌, ◌*◌, ◌<◌, ◌≤◌, ◌^◌, ℤ, pos, negsuc, neg_ℤ, ◌+ℤ◌, ◌-ℤ◌, ◌*ℤ◌, List, [], ◌∷◌, ◌++◌, length, get_or}
+use Rattle.sg_bonds.proofs.Common.{refl, sym, ◌∙◌, ap, ap₂, subst, arith, Some, to_z, of_z, w64, FitsSigned, slice_get, unsigned_abs, ints}
+use Rattle.sg_bonds.proofs.Common.{fits_signed_from_abs, sum_limit, forced_limit, Bond, Ising, bond_at, bond_count, IsInstance, IsUpOrDown, IsGroundState, IsLeastEnergy, energy, product, weight}
+use Rattle.std.proofs.lemmas.Int.{to_z-of_z}
 use Rattle.std.proofs.lemmas.Option.{get_or_from_slice_get}
-use Rattle.sg_limits.specs.Limits.{sum_limit, forced_limit}
-use Rattle.sg_model.specs.declared.bond.Bond.{Bond}
-use Rattle.sg_model.specs.Ising.{Ising, bond_at, bond_count}
-use Rattle.sg_model.specs.WellFormed.{IsInstance}
-use Rattle.sg_model.specs.Spins.{IsUpOrDown}
-use Rattle.sg_model.specs.Energy.{IsGroundState, IsLeastEnergy, energy, product, weight}
 use Rattle.sg_model.specs.Changes.{with_coupling}
 use Rattle.sg_model.proofs.EnergyBounds.{energy_size, least_of_ground_state}
 use Rattle.sg_planar.proofs.OtherCouplings.{weight_coupled}

@@ -1,13 +1,7 @@
 -- Bounds of all bonds at once: costs are even, and what the law of weakened ground states says of them.
-use Rattle.std.proofs.Common.{◌≡◌, ◌≢◌, ◌⊎◌, inl, inr, ℕ, ◌+◌, ◌*◌, ◌<◌, ◌≤◌, ℤ, pos, negsuc, ◌-ℤ◌, ◌*ℤ◌, ◌≤ℤ◌, ◌<ℤ◌, List, length, set, sym, ◌∙◌, subst, arith, All, sum_by}
-use Rattle.std.specs.Prelude.{unsigned_abs}
-use Rattle.std.proofs.lemmas.Int.{by_lt_z, ints}
-use Rattle.std.proofs.lemmas.List.{get_or_default}
-use Rattle.sg_limits.specs.Limits.{sum_limit}
-use Rattle.sg_model.specs.Ising.{Ising, bond_count}
-use Rattle.sg_model.specs.WellFormed.{IsInstance}
+use Rattle.sg_bonds.proofs.Common.{◌≡◌, ◌≢◌, ◌⊎◌, inl, inr, ℕ, ◌+◌, ◌*◌, ◌<◌, ◌≤◌, ℤ, pos, negsuc, ◌-ℤ◌, ◌*ℤ◌, ◌≤ℤ◌, ◌<ℤ◌, List, length, set, sym, ◌∙◌, subst}
+use Rattle.sg_bonds.proofs.Common.{arith, All, sum_by, unsigned_abs, by_lt_z, ints, get_or_default, sum_limit, Ising, bond_count, IsInstance, IsGroundState, weight}
 use Rattle.sg_model.proofs.BrokenEnergy.{broken_weight, energy_from_broken}
-use Rattle.sg_model.specs.Energy.{IsGroundState, weight}
 use Rattle.sg_bonds.specs.Cost.{IsCost, IsRigid}
 use Rattle.sg_bonds.specs.declared.bounds.Bound.{Bound}
 use Rattle.sg_bonds.specs.Bounds.{AreBounds, BoundsCost, Decides, IsTighter, Narrows, bound_at, no_bound, risen, unbounded}

@@ -1,16 +1,10 @@
 -- A coupling larger than the sum of all couplings forces its bond: no ground state breaks it, and so the least energy with
 -- that product at the bond is known from the new least energy.
-use Rattle.std.proofs.Common.{◌≡◌, ◌⊎◌, inl, inr, ℕ, ◌<◌, ◌≤◌, ℤ, pos, neg_ℤ, ◌+ℤ◌, ◌-ℤ◌, ◌*ℤ◌, ◌≤ℤ◌, List, length, replicate, set, refl, sym, ◌∙◌, ap, ap₂, subst, arith, All}
-use Rattle.std.specs.Prelude.{unsigned_abs}
+use Rattle.sg_bonds.proofs.Common.{◌≡◌, ◌⊎◌, inl, inr, ℕ, ◌<◌, ◌≤◌, ℤ, pos, neg_ℤ, ◌+ℤ◌, ◌-ℤ◌, ◌*ℤ◌, ◌≤ℤ◌, List, length, replicate, set, refl, sym, ◌∙◌, ap}
+use Rattle.sg_bonds.proofs.Common.{ap₂, subst, arith, All, unsigned_abs, ints, get_or-set_same, get_or-set_other, length-set, get_or-replicate}
+use Rattle.sg_bonds.proofs.Common.{length-replicate, Bond, Ising, IsBond, bond_at, bond_count, IsInstance, IsUpOrDown, IsAssignment, spin, IsGroundState, IsLeastEnergy, energy, product, weight}
 use Rattle.std.proofs.Math.IntN.{*ℤ_comm}
-use Rattle.std.proofs.lemmas.Int.{ints}
-use Rattle.std.proofs.lemmas.List.{get_or-set_same, get_or-set_other, length-set, get_or-replicate, length-replicate}
 use Rattle.std.proofs.lemmas.List.Elements.{All-replicate, All-set}
-use Rattle.sg_model.specs.declared.bond.Bond.{Bond}
-use Rattle.sg_model.specs.Ising.{Ising, IsBond, bond_at, bond_count}
-use Rattle.sg_model.specs.WellFormed.{IsInstance}
-use Rattle.sg_model.specs.Spins.{IsUpOrDown, IsAssignment, spin}
-use Rattle.sg_model.specs.Energy.{IsGroundState, IsLeastEnergy, energy, product, weight}
 use Rattle.sg_model.specs.Changes.{with_coupling}
 use Rattle.sg_model.proofs.SameEnds.{recoupled_instance}
 use Rattle.sg_model.proofs.Recoupled.{coupling_ends}

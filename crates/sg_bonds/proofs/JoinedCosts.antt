@@ -1,19 +1,10 @@
 -- The costs of the parts, one behind another, make those of the whole.
-use Rattle.std.proofs.Common.{inl, inr, ◌≡◌, ◌≢◌, ℕ, suc, ◌+◌, ◌<◌, ◌≤◌, ℤ, pos, Bool, true, false, cond, List, [], ◌∷◌, sym, ◌∙◌, ap, subst, arith, sum_by}
-use Rattle.std.proofs.Common.{length, get_or, unsigned_abs}
-use Rattle.std.proofs.lemmas.Bool.{cases_Bool, cases_eq, false≢true}
-use Rattle.std.proofs.lemmas.List.{get_or_default}
+use Rattle.sg_bonds.proofs.Common.{inl, inr, ◌≡◌, ◌≢◌, ℕ, suc, ◌+◌, ◌<◌, ◌≤◌, ℤ, pos, Bool, true, false, cond, List, [], ◌∷◌, sym, ◌∙◌, ap, subst, arith}
+use Rattle.sg_bonds.proofs.Common.{sum_by, length, get_or, unsigned_abs, cases_Bool, cases_eq, false≢true, get_or_default, sum_limit, holds, Bond, Ising, bond_count, IsInstance, spin, weight}
 use Rattle.std.proofs.lemmas.List.Sums.{sum_by-cons}
-use Rattle.sg_limits.specs.Limits.{sum_limit}
-use Rattle.sg_sums.specs.Sets.{holds}
 use Rattle.sg_sums.proofs.ListLaws.{cases_in}
 use Rattle.sg_sums.proofs.MemberSums.{members_sum}
 use Rattle.sg_sums.proofs.SumLaws.{sum_below-le, sum_by_is_sum_below}
-use Rattle.sg_model.specs.declared.bond.Bond.{Bond}
-use Rattle.sg_model.specs.Ising.{Ising, bond_count}
-use Rattle.sg_model.specs.WellFormed.{IsInstance}
-use Rattle.sg_model.specs.Spins.{spin}
-use Rattle.sg_model.specs.Energy.{weight}
 use Rattle.sg_planar.specs.declared.components.Part.{Part}
 use Rattle.sg_planar.specs.Parts.{AreParts, IsPart}
 use Rattle.sg_ground.specs.Placed.{WritesAt}

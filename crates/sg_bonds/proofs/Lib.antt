@@ -1,3 +1,4 @@
+mod Common
 pub mod ForcedMinimum
 pub mod RigidProducts
 pub mod CostNumbers

@@ -1,12 +1,7 @@
 -- Bounds that are narrowed: what holds of one list of bounds holds of a tighter one, and what a state or a cost adds to them.
-use Rattle.std.proofs.Common.{All, ◌^◌, ◌-◌, ◌≡◌, ◌≢◌, ◌⊎◌, inl, inr, ℕ, ◌+◌, ◌<◌, Bool, true, ℤ, pos, neg_ℤ, ◌+ℤ◌, ◌≤ℤ◌, ◌<ℤ◌, List, length, get_or, map, refl, sym, ◌∙◌, subst, arith, set}
-use Rattle.std.proofs.lemmas.Bool.{cases_lt}
-use Rattle.std.proofs.lemmas.Int.{ints}
-use Rattle.std.proofs.lemmas.List.{get_or-map, get_or_default, get_or-set_same, length-map, length-set}
-use Rattle.sg_model.specs.Ising.{Ising, bond_at, bond_count}
-use Rattle.sg_model.specs.WellFormed.{IsInstance}
-use Rattle.sg_model.specs.Spins.{IsAssignment}
-use Rattle.sg_model.specs.Energy.{IsGroundState, energy, product}
+use Rattle.sg_bonds.proofs.Common.{All, ◌^◌, ◌-◌, ◌≡◌, ◌≢◌, ◌⊎◌, inl, inr, ℕ, ◌+◌, ◌<◌, Bool, true, ℤ, pos, neg_ℤ, ◌+ℤ◌, ◌≤ℤ◌, ◌<ℤ◌, List, length, get_or, map}
+use Rattle.sg_bonds.proofs.Common.{refl, sym, ◌∙◌, subst, arith, set, cases_lt, ints, get_or-map, get_or_default, get_or-set_same, length-map, length-set}
+use Rattle.sg_bonds.proofs.Common.{Ising, bond_at, bond_count, IsInstance, IsAssignment, IsGroundState, energy, product}
 use Rattle.sg_model.specs.Changes.{with_coupling}
 use Rattle.sg_ground.proofs.Allowed.{all_fit}
 use Rattle.sg_bonds.specs.Cost.{AreCosts, IsCost}

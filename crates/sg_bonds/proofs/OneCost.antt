@@ -1,8 +1,6 @@
 -- A bond has one cost, and a spin one cluster.
-use Rattle.std.proofs.Common.{◌≡◌, ◌<◌, ℕ, ℤ, pos, negsuc, ◌-ℤ◌, Bool, true, List, [], ◌∷◌, get_or, sym, ap₂, ◌∙◌, arith, unsigned_abs}
-use Rattle.std.proofs.lemmas.List.{get_or_default, same_lists}
-use Rattle.sg_model.specs.Ising.{Ising, bond_count}
-use Rattle.sg_model.specs.Connected.{IsWalk, Reached}
+use Rattle.sg_bonds.proofs.Common.{◌≡◌, ◌<◌, ℕ, ℤ, pos, negsuc, ◌-ℤ◌, Bool, true, List, [], ◌∷◌, get_or, sym, ap₂, ◌∙◌, arith, unsigned_abs, get_or_default}
+use Rattle.sg_bonds.proofs.Common.{same_lists, Ising, bond_count, IsWalk, Reached}
 use Rattle.sg_model.proofs.OneEnergy.{least-meet}
 use Rattle.sg_bonds.specs.Cost.{AreCosts, IsCost, IsLeastWith}
 use Rattle.sg_bonds.specs.Cluster.{AreClusters, IsCluster}

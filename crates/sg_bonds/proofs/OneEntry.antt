@@ -1,7 +1,6 @@
 -- A list with another entry, or one more: what holds of that entry and of the others holds of each.
-use Rattle.std.proofs.Common.{◌≡◌, ◌≢◌, inl, inr, ℕ, ◌+◌, ◌<◌, List, [], ◌∷◌, ◌++◌, length, get_or, set, sym, ◌∙◌, subst, arith}
-use Rattle.std.proofs.lemmas.Bool.{cases_eq, cases_lt}
-use Rattle.std.proofs.lemmas.List.{get_or-set_other, get_or-set_same, get_or_append_left, get_or_push}
+use Rattle.sg_bonds.proofs.Common.{◌≡◌, ◌≢◌, inl, inr, ℕ, ◌+◌, ◌<◌, List, [], ◌∷◌, ◌++◌, length, get_or, set, sym, ◌∙◌, subst, arith, cases_eq, cases_lt}
+use Rattle.sg_bonds.proofs.Common.{get_or-set_other, get_or-set_same, get_or_append_left, get_or_push}
 
 module _ {A : Type 0} (P : ℕ → A → Type 0) (xs : List A) (now d : A) where
   pub set_either : (k i : ℕ) → k < length xs → P k now → (i ≢ k → P i (get_or xs i d)) → P i (get_or (set xs k now) i d)

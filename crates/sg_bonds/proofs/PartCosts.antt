@@ -1,19 +1,12 @@
 -- What a bond costs in its component it costs in the whole: the least energies of the other bonds cancel.
-use Rattle.std.proofs.Common.{inl, inr, ◌≡◌, ◌≢◌, ℕ, ◌+◌, ◌<◌, ◌≤◌, ℤ, pos, negsuc, ◌+ℤ◌, ◌-ℤ◌, ◌*ℤ◌}
-use Rattle.std.proofs.Common.{false, cond, List, refl, sym, ◌∙◌, ap, ap₂, subst, arith, sum_by, length}
-use Rattle.std.proofs.lemmas.Bool.{cases_Bool, false≢true, false_from_ne_true}
-use Rattle.std.proofs.lemmas.Int.{ints}
+use Rattle.sg_bonds.proofs.Common.{inl, inr, ◌≡◌, ◌≢◌, ℕ, ◌+◌, ◌<◌, ◌≤◌, ℤ, pos, negsuc, ◌+ℤ◌, ◌-ℤ◌, ◌*ℤ◌, false, cond, List, refl, sym, ◌∙◌, ap, ap₂, subst}
+use Rattle.sg_bonds.proofs.Common.{arith, sum_by, length, cases_Bool, false≢true, false_from_ne_true, ints, holds, Ising, IsBond, bond_at, bond_count}
+use Rattle.sg_bonds.proofs.Common.{IsInstance, JoinedBy, all_bonds, IsAssignment, IsUpOrDown, spin, IsGroundState, energy, product, weight}
 use Rattle.std.proofs.lemmas.List.Elements.{All-from_get_or}
 use Rattle.sg_sums.specs.Sums.{sum_below}
-use Rattle.sg_sums.specs.Sets.{holds}
 use Rattle.sg_sums.proofs.ListLaws.{cases_in}
 use Rattle.sg_sums.proofs.MemberSums.{members_sum}
 use Rattle.sg_sums.proofs.SumLaws.{sum_below-add, sum_below-same, sum_by_is_sum_below}
-use Rattle.sg_model.specs.Ising.{Ising, IsBond, bond_at, bond_count}
-use Rattle.sg_model.specs.WellFormed.{IsInstance}
-use Rattle.sg_model.specs.Connected.{JoinedBy, all_bonds}
-use Rattle.sg_model.specs.Spins.{IsAssignment, IsUpOrDown, spin}
-use Rattle.sg_model.specs.Energy.{IsGroundState, energy, product, weight}
 use Rattle.sg_model.proofs.BrokenEnergy.{broken_cost, energy_from_costs, unit_at}
 use Rattle.sg_model.proofs.Paths.{reached_more}
 use Rattle.sg_planar.specs.declared.components.Part.{Part}

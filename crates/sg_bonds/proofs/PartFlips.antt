@@ -1,20 +1,12 @@
 -- Assignments of which a part is flipped: their products, and their energies by sums over the bonds.
-use Rattle.std.proofs.Common.{◌≡◌, ℕ, zero, suc, ◌+◌, ◌*◌, ◌^◌, ◌<◌, ◌≤◌, Bool, true, not, cond, eqb, ℤ, pos, neg_ℤ, ◌+ℤ◌, ◌-ℤ◌, ◌*ℤ◌, List, [], length, get_or, set, refl, sym, ◌∙◌, ap, ap₂, subst, arith, All}
-use Rattle.std.specs.Prelude.{unsigned_abs}
-use Rattle.std.proofs.lemmas.Bool.{cases_eq}
-use Rattle.std.proofs.lemmas.Int.{ints}
-use Rattle.std.proofs.lemmas.List.{get_or-set_other, get_or-set_same, get_or_default, length-set}
+use Rattle.sg_bonds.proofs.Common.{◌≡◌, ℕ, zero, suc, ◌+◌, ◌*◌, ◌^◌, ◌<◌, ◌≤◌, Bool, true, not, cond, eqb, ℤ, pos, neg_ℤ, ◌+ℤ◌, ◌-ℤ◌, ◌*ℤ◌, List, [], length}
+use Rattle.sg_bonds.proofs.Common.{get_or, set, refl, sym, ◌∙◌, ap, ap₂, subst, arith, All, unsigned_abs, cases_eq, ints, get_or-set_other, get_or-set_same}
+use Rattle.sg_bonds.proofs.Common.{get_or_default, length-set, sum_limit, Bond, Ising, IsBond, bond_at, bond_count, IsInstance, IsUpOrDown, IsAssignment, spin, energy, product, weight}
 use Rattle.std.proofs.lemmas.List.Elements.{All-from_get_or}
 use Rattle.std.proofs.lemmas.List.FromFn.{get_or-map-range_with_len, length-map-range_with_len}
-use Rattle.sg_limits.specs.Limits.{sum_limit}
 use Rattle.sg_sums.specs.Parity.{xor}
 use Rattle.sg_sums.specs.Sums.{sum_below}
 use Rattle.sg_sums.proofs.SumLaws.{sum_by_is_sum_below}
-use Rattle.sg_model.specs.declared.bond.Bond.{Bond}
-use Rattle.sg_model.specs.Ising.{Ising, IsBond, bond_at, bond_count}
-use Rattle.sg_model.specs.WellFormed.{IsInstance}
-use Rattle.sg_model.specs.Spins.{IsUpOrDown, IsAssignment, spin}
-use Rattle.sg_model.specs.Energy.{energy, product, weight}
 use Rattle.sg_walk.specs.Naming.{AllNamed}
 use Rattle.sg_bonds.specs.Flipped.{ArePartNames, with_part_flipped}
 use Rattle.sg_bonds.proofs.Agreement.{units}

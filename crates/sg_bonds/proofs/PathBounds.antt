@@ -1,14 +1,8 @@
 -- Bounds of costs: an assignment that turns a bond turns some bond of each path that joins its ends, so the bond costs at least as
 -- much as the cheapest bond of the path; and an assignment that turns it bounds its cost from above.
-use Rattle.std.proofs.Common.{◌≡◌, ◌≢◌, ◌⊎◌, inl, inr, ℕ, ◌+◌, ◌<◌, ◌≤◌, Bool, false, ℤ, pos, negsuc, neg_ℤ, ◌+ℤ◌, ◌≤ℤ◌, List, sym, ◌∙◌, ap, subst, arith, length, [], ◌∷◌, ◌++◌}
-use Rattle.std.proofs.lemmas.Int.{ints}
-use Rattle.sg_limits.specs.Limits.{sum_limit}
-use Rattle.sg_model.specs.Ising.{Ising, bond_at, bond_count}
-use Rattle.sg_model.specs.WellFormed.{IsInstance}
-use Rattle.sg_model.specs.Spins.{IsUpOrDown, IsAssignment}
-use Rattle.sg_model.specs.Energy.{IsGroundState, energy, product, weight}
-use Rattle.sg_model.specs.Connected.{Reached}
-use Rattle.sg_walk.specs.Walk.{has}
+use Rattle.sg_bonds.proofs.Common.{◌≡◌, ◌≢◌, ◌⊎◌, inl, inr, ℕ, ◌+◌, ◌<◌, ◌≤◌, Bool, false, ℤ, pos, negsuc, neg_ℤ, ◌+ℤ◌, ◌≤ℤ◌, List, sym, ◌∙◌, ap, subst, arith}
+use Rattle.sg_bonds.proofs.Common.{length, [], ◌∷◌, ◌++◌, ints, sum_limit, Ising, bond_at, bond_count, IsInstance, IsUpOrDown, IsAssignment, IsGroundState}
+use Rattle.sg_bonds.proofs.Common.{energy, product, weight, Reached, has}
 use Rattle.sg_bonds.specs.Cost.{IsCost, IsLeastWith}
 use Rattle.sg_bonds.specs.declared.bounds.Bound.{Bound}
 use Rattle.sg_bonds.specs.Bounds.{AreBounds, IsMet, bound_at, costs_at_least, no_bound}

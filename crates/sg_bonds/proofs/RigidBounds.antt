@@ -1,10 +1,6 @@
 -- A bond that another ground state turns is free.
-use Rattle.std.proofs.Common.{◌≡◌, ℕ, ◌<◌, ℤ, pos, neg_ℤ, ◌≤ℤ◌, List, refl, sym, subst, arith}
-use Rattle.std.proofs.lemmas.Int.{ints}
-use Rattle.sg_model.specs.Ising.{Ising, bond_at, bond_count}
-use Rattle.sg_model.specs.WellFormed.{IsInstance}
-use Rattle.sg_model.specs.Spins.{IsUpOrDown, IsAssignment}
-use Rattle.sg_model.specs.Energy.{IsGroundState, energy, product}
+use Rattle.sg_bonds.proofs.Common.{◌≡◌, ℕ, ◌<◌, ℤ, pos, neg_ℤ, ◌≤ℤ◌, List, refl, sym, subst, arith, ints, Ising, bond_at, bond_count, IsInstance, IsUpOrDown}
+use Rattle.sg_bonds.proofs.Common.{IsAssignment, IsGroundState, energy, product}
 use Rattle.sg_bonds.specs.Cost.{IsCost}
 use Rattle.sg_bonds.proofs.CostNumbers.{cost_from_other}
 use Rattle.sg_bonds.proofs.ForcedMinimum.{unit_product}

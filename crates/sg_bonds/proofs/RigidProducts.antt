@@ -1,11 +1,5 @@
 -- Two ground states agree on the product at each rigid bond, and so on the product of two spins that rigid bonds join.
-use Rattle.std.proofs.Common.{◌≡◌, inl, inr, ℕ, Bool, ℤ, ◌*ℤ◌, List, arith}
-use Rattle.std.proofs.lemmas.Int.{ints}
-use Rattle.sg_model.specs.Ising.{Ising}
-use Rattle.sg_model.specs.WellFormed.{IsInstance}
-use Rattle.sg_model.specs.Spins.{spin}
-use Rattle.sg_model.specs.Energy.{IsGroundState}
-use Rattle.sg_model.specs.Connected.{Reached}
+use Rattle.sg_bonds.proofs.Common.{◌≡◌, inl, inr, ℕ, Bool, ℤ, ◌*ℤ◌, List, arith, ints, Ising, IsInstance, spin, IsGroundState, Reached}
 use Rattle.sg_bonds.specs.Cluster.{HasRigid, IsCluster}
 use Rattle.sg_bonds.proofs.Agreement.{Agree, agree_back, agree_or_turn, agree_through}
 use Rattle.sg_bonds.proofs.ForcedMinimum.{unit_product}

@@ -1,11 +1,6 @@
 -- Each bond has a cost: some assignment has the least energy of all, and with a force at a bond that of all with a product there.
-use Rattle.std.proofs.Common.{inl, inr, ℕ, zero, suc, ◌+◌, ◌-◌, ◌*◌, ◌^◌, ◌<◌, ◌≤◌, ℤ, pos, negsuc, ◌+ℤ◌, ◌-ℤ◌, ◌*ℤ◌, ◌≤ℤ◌, List, refl, arith, unsigned_abs}
-use Rattle.std.proofs.lemmas.Int.{ints, by_lt_z}
-use Rattle.sg_limits.specs.Limits.{sum_limit}
-use Rattle.sg_model.specs.Ising.{Ising, bond_at, bond_count}
-use Rattle.sg_model.specs.WellFormed.{IsInstance}
-use Rattle.sg_model.specs.Spins.{IsUpOrDown}
-use Rattle.sg_model.specs.Energy.{IsGroundState, energy, weight}
+use Rattle.sg_bonds.proofs.Common.{inl, inr, ℕ, zero, suc, ◌+◌, ◌-◌, ◌*◌, ◌^◌, ◌<◌, ◌≤◌, ℤ, pos, negsuc, ◌+ℤ◌, ◌-ℤ◌, ◌*ℤ◌, ◌≤ℤ◌, List, refl, arith}
+use Rattle.sg_bonds.proofs.Common.{unsigned_abs, ints, by_lt_z, sum_limit, Ising, bond_at, bond_count, IsInstance, IsUpOrDown, IsGroundState, energy, weight}
 use Rattle.sg_model.specs.Changes.{with_coupling}
 use Rattle.sg_model.specs.Codes.{coded}
 use Rattle.sg_model.proofs.EnergyBounds.{least_of_ground_state}

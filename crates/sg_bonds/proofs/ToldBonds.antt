@@ -1,10 +1,7 @@
 -- What is told of the bonds stays true: one more bond is told, bonds that were weakened are rigid, or another ground state frees
 -- those that it turns.
-use Rattle.std.proofs.Common.{◌≡◌, ◌⊎◌, ◌↔◌, inl, inr, ℕ, ◌+◌, ◌<◌, ◌≤◌, Bool, true, false, ℤ, pos, ◌≤ℤ◌, List, [], ◌∷◌, ◌++◌, sym, ◌∙◌, subst, arith, length}
-use Rattle.std.proofs.Common.{set, length-set}
-use Rattle.std.proofs.lemmas.Int.{ints}
-use Rattle.sg_model.specs.Ising.{Ising, bond_count}
-use Rattle.sg_walk.specs.Walk.{has}
+use Rattle.sg_bonds.proofs.Common.{◌≡◌, ◌⊎◌, ◌↔◌, inl, inr, ℕ, ◌+◌, ◌<◌, ◌≤◌, Bool, true, false, ℤ, pos, ◌≤ℤ◌, List, [], ◌∷◌, ◌++◌, sym, ◌∙◌, subst, arith}
+use Rattle.sg_bonds.proofs.Common.{length, set, length-set, ints, Ising, bond_count, has}
 use Rattle.sg_bonds.specs.Cost.{IsCost, IsRigid}
 use Rattle.sg_bonds.specs.declared.telling.Told.{Told}
 use Rattle.sg_bonds.specs.declared.telling.Told.TheVariants.{Free, Rigid, Unknown}

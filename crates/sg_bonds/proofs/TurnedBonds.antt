@@ -1,27 +1,15 @@
 -- Joins that assignments break, and the bonds that two assignments break differently.
-use Rattle.std.proofs.Common.{inl, inr, ◌≡◌, ◌≤◌, ℕ, ◌<◌, ℤ, pos, neg_ℤ, ◌+ℤ◌, ◌-ℤ◌, Bool, true, false, eqb, List, length, map, sym, ◌∙◌, ap, ap₂, subst, arith}
-use Rattle.std.specs.Prelude.{unsigned_abs}
-use Rattle.std.proofs.lemmas.Bool.{false≢true}
-use Rattle.std.proofs.lemmas.Int.{ints}
-use Rattle.std.proofs.lemmas.List.{get_or-map, length-map}
-use Rattle.sg_limits.specs.Limits.{forced_limit}
+use Rattle.sg_bonds.proofs.Common.{inl, inr, ◌≡◌, ◌≤◌, ℕ, ◌<◌, ℤ, pos, neg_ℤ, ◌+ℤ◌, ◌-ℤ◌, Bool, true, false, eqb, List, length, map, sym, ◌∙◌, ap, ap₂, subst}
+use Rattle.sg_bonds.proofs.Common.{arith, unsigned_abs, false≢true, ints, get_or-map, length-map, forced_limit, chosen_below, is_marked, Bond, Ising, bond_at}
+use Rattle.sg_bonds.proofs.Common.{bond_count, IsInstance, IsConnected, IsAssignment, IsUpOrDown, energy, product, weight, weight_of, Embedding, IsPlanar}
 use Rattle.sg_sums.specs.Parity.{parity_by, xor}
-use Rattle.sg_sums.specs.Sets.{chosen_below, is_marked}
 use Rattle.sg_sums.proofs.ParityLaws.{xor_self}
 use Rattle.sg_sums.proofs.RisingLists.{parity_of_rising}
-use Rattle.sg_model.specs.declared.bond.Bond.{Bond}
-use Rattle.sg_model.specs.Ising.{Ising, bond_at, bond_count}
-use Rattle.sg_model.specs.WellFormed.{IsInstance}
-use Rattle.sg_model.specs.Connected.{IsConnected}
-use Rattle.sg_model.specs.Spins.{IsAssignment, IsUpOrDown}
-use Rattle.sg_model.specs.Energy.{energy, product, weight}
 use Rattle.sg_model.specs.Broken.{is_broken}
-use Rattle.sg_graph.specs.Web.{weight_of}
 use Rattle.sg_graph.specs.Join.{IsJoin}
 use Rattle.sg_graph.proofs.OnceLists.{rising_light}
 use Rattle.sg_dual.specs.Dual.{dual_web, frustrated_faces}
 use Rattle.sg_dual.proofs.DualWebs.{dual_weight}
-use Rattle.sg_planar.specs.Fit.{Embedding, IsPlanar}
 use Rattle.sg_ground.proofs.BrokenJoins.{energy_of_join, some_breaking}
 use Rattle.sg_ground.proofs.JoinFits.{join_below}
 use Rattle.sg_bonds.specs.Cost.{IsLeastWith}

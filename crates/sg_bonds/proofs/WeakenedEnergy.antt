@@ -1,21 +1,14 @@
 -- The law of weakened ground states: what is taken from the couplings bounds energies from below.
-use Rattle.std.proofs.Common.{◌≡◌, inl, inr, ℕ, zero, suc, ◌+◌, ◌*◌, ◌<◌, ◌≤◌, false, cond, ℤ, pos, negsuc, neg_ℤ, ◌+ℤ◌, ◌-ℤ◌, ◌*ℤ◌, ◌≤ℤ◌, ◌<ℤ◌, List, take}
-use Rattle.std.proofs.Common.{map, fold, refl, sym, ◌∙◌, ap, subst, arith, int_eq, unsigned_abs, take_all}
+use Rattle.sg_bonds.proofs.Common.{◌≡◌, inl, inr, ℕ, zero, suc, ◌+◌, ◌*◌, ◌<◌, ◌≤◌, false, cond, ℤ, pos, negsuc, neg_ℤ, ◌+ℤ◌, ◌-ℤ◌, ◌*ℤ◌, ◌≤ℤ◌, ◌<ℤ◌, List}
+use Rattle.sg_bonds.proofs.Common.{take, map, fold, refl, sym, ◌∙◌, ap, subst, arith, int_eq, unsigned_abs, take_all, by_lt_z, ints, unsigned_abs-mul}
+use Rattle.sg_bonds.proofs.Common.{take_more, sum_limit, Bond, Ising, bond_at, bond_count, IsInstance, IsUpOrDown, IsAssignment, IsGroundState, energy, product, weight}
 use Rattle.std.specs.List.{range_with_len}
 use Rattle.std.proofs.Math.IntN.{*ℤ-zero, suc_ℤ-*ℤ, zero-*ℤ}
 use Rattle.std.proofs.lemmas.Bool.Decides.{Decides-int_eq}
-use Rattle.std.proofs.lemmas.Int.{by_lt_z, ints, unsigned_abs-mul}
-use Rattle.std.proofs.lemmas.List.{take_more}
 use Rattle.std.proofs.lemmas.List.FromFn.{get_or-map-range_with_len}
 use Rattle.std.proofs.lemmas.List.Sums.{fold_push}
-use Rattle.sg_limits.specs.Limits.{sum_limit}
 use Rattle.sg_sums.specs.Sums.{sum_below}
 use Rattle.sg_sums.proofs.SumLaws.{at-le-sum_below, sum_below-add, sum_below-le, sum_below-zero, sum_by_is_sum_below}
-use Rattle.sg_model.specs.declared.bond.Bond.{Bond}
-use Rattle.sg_model.specs.Ising.{Ising, bond_at, bond_count}
-use Rattle.sg_model.specs.WellFormed.{IsInstance}
-use Rattle.sg_model.specs.Spins.{IsUpOrDown, IsAssignment}
-use Rattle.sg_model.specs.Energy.{IsGroundState, energy, product, weight}
 use Rattle.sg_model.specs.Changes.{recoupled}
 use Rattle.sg_model.proofs.Recoupled.{all_long, coupled_at_place}
 use Rattle.sg_bonds.specs.Weakened.{turned_amount, turns, weakened, weakened_coupling}

@@ -1,23 +1,16 @@
 -- Weakened instances as a solver takes them, and what their ground states tell.
-use Rattle.std.proofs.Common.{◌≡◌, ◌≢◌, ◌⊎◌, inl, inr, ℕ, ◌+◌, ◌-◌, ◌*◌, ◌^◌, ◌<◌, ◌≤◌, true, false, cond, eqb, ℤ, pos, neg_ℤ, ◌+ℤ◌, ◌*ℤ◌, ◌≤ℤ◌, ◌<ℤ◌, List}
-use Rattle.std.proofs.Common.{get_or, map, set, replicate, sym, ◌∙◌, ap, subst, arith, unsigned_abs, eq-eqb, ne_eqb, get_or-set_other, get_or-set_same}
+use Rattle.sg_bonds.proofs.Common.{◌≡◌, ◌≢◌, ◌⊎◌, inl, inr, ℕ, ◌+◌, ◌-◌, ◌*◌, ◌^◌, ◌<◌, ◌≤◌, true, false, cond, eqb, ℤ, pos, neg_ℤ, ◌+ℤ◌, ◌*ℤ◌, ◌≤ℤ◌, ◌<ℤ◌}
+use Rattle.sg_bonds.proofs.Common.{List, get_or, map, set, replicate, sym, ◌∙◌, ap, subst, arith, unsigned_abs, eq-eqb, ne_eqb, get_or-set_other}
+use Rattle.sg_bonds.proofs.Common.{get_or-set_same, cases_Bool, cases_eq, by_lt_z, ints, get_or-replicate, length-map, length-replicate, forced_limit}
+use Rattle.sg_bonds.proofs.Common.{sum_limit, Bond, Ising, bond_at, bond_count, IsInstance, IsAssignment, IsGroundState, energy, product, weight}
 use Rattle.std.specs.List.{range_with_len}
 use Rattle.std.proofs.Math.ListN.{get_or-map}
 use Rattle.std.proofs.Math.Nat.{mul-le-mul_left}
-use Rattle.std.proofs.lemmas.Bool.{cases_Bool, cases_eq}
 use Rattle.std.proofs.lemmas.Bool.Decides.{Decides-int_eq}
-use Rattle.std.proofs.lemmas.Int.{by_lt_z, ints}
-use Rattle.std.proofs.lemmas.List.{get_or-replicate, length-map, length-replicate}
 use Rattle.std.proofs.lemmas.List.Sums.{get_or-le-sum_by}
-use Rattle.sg_limits.specs.Limits.{forced_limit, sum_limit}
 use Rattle.sg_sums.specs.Sums.{sum_below}
 use Rattle.sg_sums.proofs.ListLaws.{map-agree}
 use Rattle.sg_sums.proofs.SumLaws.{at-le-sum_below, sum_below-same, sum_below_pick}
-use Rattle.sg_model.specs.declared.bond.Bond.{Bond}
-use Rattle.sg_model.specs.Ising.{Ising, bond_at, bond_count}
-use Rattle.sg_model.specs.WellFormed.{IsInstance}
-use Rattle.sg_model.specs.Spins.{IsAssignment}
-use Rattle.sg_model.specs.Energy.{IsGroundState, energy, product, weight}
 use Rattle.sg_model.specs.Changes.{coupled_at, negated, opposite, recoupled, with_couplings}
 use Rattle.sg_ground.specs.Allowance.{TablesExceed}
 use Rattle.sg_ground.proofs.Allowed.{all_fit}

@@ -1,5 +1,4 @@
-use Rattle.std.proofs.Common.{arith}
-use Rattle.std.proofs.lemmas.Grind.{elements}
+use Rattle.sg_bonds.proofs.Common.{arith, elements}
 use Rattle.sg_bonds.proofs.bounds.is_turned.Goals as goal
 
 pub returns : goal.returns

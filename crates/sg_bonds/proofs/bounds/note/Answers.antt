@@ -1,7 +1,4 @@
-use Rattle.std.proofs.Common.{rules, ◌<◌, ◌∙◌, pos, Bool, false, List, ap, sym, get_or, length, arith, w64, to_z-of_z}
-use Rattle.std.proofs.lemmas.List.{get_or_default}
-use Rattle.sg_sums.specs.Sets.{is_marked}
-use Rattle.sg_model.specs.Ising.{bond_count}
+use Rattle.sg_bonds.proofs.Common.{rules, ◌<◌, ◌∙◌, pos, Bool, false, List, ap, sym, get_or, length, arith, w64, to_z-of_z, get_or_default, is_marked, bond_count}
 use Rattle.sg_bonds.specs.Bounds.{unbounded}
 use Rattle.sg_bonds.proofs.NarrowedBounds.{just, narrows_noted, narrows_self}
 use Rattle.sg_bonds.proofs.bounds.note.Goals as goal

@@ -1,5 +1,4 @@
-use Rattle.std.proofs.Common.{arith}
-use Rattle.std.proofs.lemmas.Grind.{common_steps}
+use Rattle.sg_bonds.proofs.Common.{arith, common_steps}
 use Rattle.sg_bonds.proofs.breaking.broken_marks.Goals as goal
 
 pub loop-bond-preserved : goal.loop-bond-preserved

@@ -1,7 +1,5 @@
-use Rattle.std.proofs.Common.{rules, ◌≡◌, List, ℤ, map, ap, ◌∙◌, w64, to_z, of_z, to_z-of_z, arith}
-use Rattle.std.proofs.lemmas.Grind.{common_steps}
+use Rattle.sg_bonds.proofs.Common.{rules, ◌≡◌, List, ℤ, map, ap, ◌∙◌, w64, to_z, of_z, to_z-of_z, arith, common_steps, Ising}
 use Rattle.sg_model.specs.Broken.{is_broken}
-use Rattle.sg_model.specs.Ising.{Ising}
 use Rattle.sg_bonds.proofs.TurnedBonds.{marks_broken}
 use Rattle.sg_bonds.proofs.breaking.forced_with.Goals as goal
 

@@ -1,5 +1,4 @@
-use Rattle.std.proofs.Common.{◌∙◌, ℤ, subst, sym}
-use Rattle.sg_model.specs.WellFormed.{IsInstance}
+use Rattle.sg_bonds.proofs.Common.{◌∙◌, ℤ, subst, sym, IsInstance}
 use Rattle.sg_bonds.specs.Cost.{IsLeastWith}
 use Rattle.sg_bonds.proofs.CostNumbers.{above_found, cost_fits, cost_found, kept_unit}
 use Rattle.sg_bonds.proofs.breaking.gap.Goals as goal

@@ -1,7 +1,4 @@
-use Rattle.std.proofs.Common.{◌≡◌, ap, neg_ℤ, sym, ◌∙◌, arith}
-use Rattle.std.proofs.lemmas.Grind.{elements, common_steps}
-use Rattle.sg_model.specs.Ising.{bond_at}
-use Rattle.sg_model.specs.Energy.{product}
+use Rattle.sg_bonds.proofs.Common.{◌≡◌, ap, neg_ℤ, sym, ◌∙◌, arith, elements, common_steps, bond_at, product}
 use Rattle.sg_bonds.proofs.CostNumbers.{kept_unit, read_bond}
 use Rattle.sg_bonds.proofs.breaking.turn.Goals as goal
 

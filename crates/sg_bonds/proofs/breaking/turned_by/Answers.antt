@@ -1,10 +1,5 @@
-use Rattle.std.proofs.Common.{rules, ◌≡◌, ◌+ℤ◌, ℤ, List, Bool, length, map, ap, sym, ◌∙◌, w64, to_z-of_z, arith}
-use Rattle.std.proofs.lemmas.Grind.{common_steps}
-use Rattle.std.proofs.lemmas.List.{length-map, with_items_is}
-use Rattle.sg_sums.specs.Sets.{is_marked}
+use Rattle.sg_bonds.proofs.Common.{rules, ◌≡◌, ◌+ℤ◌, ℤ, List, Bool, length, map, ap, sym, ◌∙◌, w64, to_z-of_z, arith, common_steps, length-map, with_items_is, is_marked, Ising, energy}
 use Rattle.sg_model.specs.Broken.{is_broken}
-use Rattle.sg_model.specs.Ising.{Ising}
-use Rattle.sg_model.specs.Energy.{energy}
 use Rattle.sg_bonds.proofs.TurnedBonds.{marks_turn}
 use Rattle.sg_bonds.proofs.breaking.turned_by.Goals as goal
 

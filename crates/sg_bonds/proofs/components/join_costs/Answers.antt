@@ -1,7 +1,5 @@
-use Rattle.std.proofs.Common.{◌≡◌, ◌<◌, ◌∙◌, ℤ, List, ℕ, All, ap, length, subst, sym, rules}
+use Rattle.sg_bonds.proofs.Common.{◌≡◌, ◌<◌, ◌∙◌, ℤ, List, ℕ, All, ap, length, subst, sym, rules, with_items_is, bond_count}
 use Rattle.std.specs.List.Sorted.{IsStrictlyIncreasing}
-use Rattle.std.proofs.lemmas.List.{with_items_is}
-use Rattle.sg_model.specs.Ising.{bond_count}
 use Rattle.sg_ground.specs.Placed.{WritesAt}
 use Rattle.sg_bonds.proofs.JoinedCosts.{all_joined, joined_more, part_light, share}
 use Rattle.sg_bonds.proofs.components.join_costs.Goals as goal

@@ -1,5 +1,4 @@
-use Rattle.std.proofs.Common.{arith}
-use Rattle.std.proofs.lemmas.Grind.{common_steps}
+use Rattle.sg_bonds.proofs.Common.{arith, common_steps}
 use Rattle.sg_bonds.proofs.components.numbers_below.Goals as goal
 
 pub loop-k-preserved : goal.loop-k-preserved

@@ -1,5 +1,4 @@
-use Rattle.std.proofs.Common.{arith}
-use Rattle.std.proofs.lemmas.Grind.{elements}
+use Rattle.sg_bonds.proofs.Common.{arith, elements}
 use Rattle.sg_bonds.proofs.components.part_costs.Goals as goal
 
 pub all_costs-requires-clause-bounds : goal.all_costs-requires-clause-bounds

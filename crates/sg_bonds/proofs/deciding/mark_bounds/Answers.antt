@@ -1,8 +1,4 @@
-use Rattle.std.proofs.Common.{rules, ◌≡◌, ◌<◌, inl, inr, ℕ, false, pos, ap, arith, get_or, length, w64, to_z-of_z}
-use Rattle.std.proofs.lemmas.Bool.{cases_Bool}
-use Rattle.std.proofs.lemmas.List.{get_or_default}
-use Rattle.sg_model.specs.declared.bond.Bond.{Bond}
-use Rattle.sg_model.specs.Ising.{Ising, bond_count}
+use Rattle.sg_bonds.proofs.Common.{rules, ◌≡◌, ◌<◌, inl, inr, ℕ, false, pos, ap, arith, get_or, length, w64, to_z-of_z, cases_Bool, get_or_default, Bond, Ising, bond_count}
 use Rattle.sg_bonds.specs.Bounds.{bound_at, unbounded}
 use Rattle.sg_bonds.proofs.EvenCosts.{decides_more, free_cost, narrows_rigid}
 use Rattle.sg_bonds.proofs.NarrowedBounds.{just, narrows_cost, narrows_self}

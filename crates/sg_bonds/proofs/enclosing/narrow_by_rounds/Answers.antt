@@ -1,5 +1,4 @@
-use Rattle.std.proofs.Common.{subst}
-use Rattle.sg_model.specs.Ising.{Ising}
+use Rattle.sg_bonds.proofs.Common.{subst, Ising}
 use Rattle.sg_bonds.specs.Bounds.{Narrows}
 use Rattle.sg_bonds.proofs.NarrowedBounds.{narrows_through}
 use Rattle.sg_bonds.proofs.enclosing.narrow_by_rounds.Goals as goal

@@ -1,5 +1,4 @@
-use Rattle.std.proofs.Common.{arith}
-use Rattle.std.proofs.lemmas.Grind.{common_steps}
+use Rattle.sg_bonds.proofs.Common.{arith, common_steps}
 use Rattle.sg_bonds.proofs.enclosing.note_other.Goals as goal
 
 pub note_parts-requires-clause-ground_state : goal.note_parts-requires-clause-ground_state

@@ -1,8 +1,5 @@
-use Rattle.std.proofs.Common.{rules, ◌∙◌, ◌<◌, ℕ, pos, ap, arith, length, w64, to_z-of_z}
-use Rattle.std.proofs.lemmas.List.{get_or_default}
+use Rattle.sg_bonds.proofs.Common.{rules, ◌∙◌, ◌<◌, ℕ, pos, ap, arith, length, w64, to_z-of_z, get_or_default, Bond, Ising, bond_count}
 use Rattle.sg_sums.proofs.SumLaws.{at-le-sum_below}
-use Rattle.sg_model.specs.declared.bond.Bond.{Bond}
-use Rattle.sg_model.specs.Ising.{Ising, bond_count}
 use Rattle.sg_bonds.specs.Bounds.{unbounded}
 use Rattle.sg_bonds.specs.Weakened.{amount_at}
 use Rattle.sg_bonds.proofs.EvenCosts.{narrows_raised, weakened_even}

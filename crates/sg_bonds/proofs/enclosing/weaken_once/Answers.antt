@@ -1,5 +1,4 @@
-use Rattle.std.proofs.Common.{arith}
-use Rattle.std.proofs.lemmas.Grind.{common_steps}
+use Rattle.sg_bonds.proofs.Common.{arith, common_steps}
 use Rattle.sg_bonds.proofs.enclosing.weaken_once.Goals as goal
 
 pub note_other-requires-clause-other : goal.note_other-requires-clause-other

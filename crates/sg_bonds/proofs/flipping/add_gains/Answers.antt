@@ -1,7 +1,4 @@
-use Rattle.std.proofs.Common.{rules, ◌≡◌, ◌∙◌, ◌<◌, ℤ, ◌+ℤ◌, ap, arith, length, sym, w64, to_z, of_z, to_z-of_z}
-use Rattle.sg_model.specs.declared.bond.Bond.{Bond}
-use Rattle.sg_model.specs.Ising.{Ising, bond_count}
-use Rattle.sg_model.specs.Energy.{energy}
+use Rattle.sg_bonds.proofs.Common.{rules, ◌≡◌, ◌∙◌, ◌<◌, ℤ, ◌+ℤ◌, ap, arith, length, sym, w64, to_z, of_z, to_z-of_z, Bond, Ising, bond_count, energy}
 use Rattle.sg_bonds.proofs.PartFlips.{first_fits, flipped_energy, gain_at, gains_long, gains_more, second_fits}
 use Rattle.sg_bonds.proofs.WeakenedEnergy.{total}
 use Rattle.sg_bonds.proofs.flipping.add_gains.Goals as goal

@@ -1,8 +1,4 @@
-use Rattle.std.proofs.Common.{rules, ◌≡◌, ◌∙◌, ◌<◌, ℕ, not, eqb, pos, ap, arith, get_or, length, set, w64, to_z-of_z}
-use Rattle.std.proofs.lemmas.List.{get_or_default, length-set}
-use Rattle.sg_model.specs.declared.bond.Bond.{Bond}
-use Rattle.sg_model.specs.Ising.{Ising, bond_at, bond_count}
-use Rattle.sg_model.specs.WellFormed.{IsInstance}
+use Rattle.sg_bonds.proofs.Common.{rules, ◌≡◌, ◌∙◌, ◌<◌, ℕ, not, eqb, pos, ap, arith, get_or, length, set, w64, to_z-of_z, get_or_default, length-set, Bond, Ising, bond_at, bond_count, IsInstance}
 use Rattle.sg_bonds.specs.Bounds.{Narrows, unbounded}
 use Rattle.sg_bonds.specs.Flipped.{with_part_flipped}
 use Rattle.sg_bonds.proofs.NarrowedBounds.{just, narrows_noted, narrows_self}

@@ -1,5 +1,4 @@
-use Rattle.std.proofs.Common.{arith}
-use Rattle.std.proofs.lemmas.Grind.{elements}
+use Rattle.sg_bonds.proofs.Common.{arith, elements}
 use Rattle.sg_bonds.proofs.flipping.single_spins.Goals as goal
 
 pub with_gains-requires-clause-names : goal.with_gains-requires-clause-names

@@ -1,6 +1,4 @@
-use Rattle.std.proofs.Common.{◌∙◌, ℕ, List, subst, arith}
-use Rattle.std.proofs.lemmas.Grind.{common_steps}
-use Rattle.std.proofs.lemmas.List.{with_items_is}
+use Rattle.sg_bonds.proofs.Common.{◌∙◌, ℕ, List, subst, arith, common_steps, with_items_is}
 use Rattle.sg_bonds.specs.Flipped.{AreGains}
 use Rattle.sg_bonds.proofs.flipping.with_gains.Goals as goal
 

@@ -1,9 +1,4 @@
-use Rattle.std.proofs.Common.{◌≡◌, ap, subst, arith}
-use Rattle.std.proofs.lemmas.Grind.{common_steps, rows}
-use Rattle.sg_model.specs.declared.bond.Bond.{Bond}
-use Rattle.sg_model.specs.Ising.{bond_at}
-use Rattle.sg_model.specs.WellFormed.{IsInstance}
-use Rattle.sg_planar.specs.Fit.{Embedding}
+use Rattle.sg_bonds.proofs.Common.{◌≡◌, ap, subst, arith, common_steps, rows, Bond, bond_at, IsInstance, Embedding}
 use Rattle.sg_bonds.proofs.CostNumbers.{IsForcedSolve, coupling_fits, energy_found, gap_fits, least_found, product_found, read_bond}
 use Rattle.sg_bonds.proofs.forcing.least_with.Goals as goal
 

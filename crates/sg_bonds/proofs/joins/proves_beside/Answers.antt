@@ -1,6 +1,5 @@
-use Rattle.std.proofs.Common.{rules, ap, ◌∙◌, to_z, of_z, w64}
+use Rattle.sg_bonds.proofs.Common.{rules, ap, ◌∙◌, to_z, of_z, w64, Graph, with_weight}
 use Rattle.std.proofs.lemmas.Int.{to_z-of_z}
-use Rattle.sg_graph.specs.Web.{Graph, with_weight}
 use Rattle.sg_bonds.proofs.EdgeJoins.{weight_back}
 use Rattle.sg_bonds.proofs.JoinsFound.{far_fits, far_light, far_positive}
 use Rattle.sg_bonds.proofs.joins.proves_beside.Goals as goal

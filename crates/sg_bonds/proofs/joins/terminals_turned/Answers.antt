@@ -1,7 +1,5 @@
-use Rattle.std.proofs.Common.{◌≡◌, ℕ, List, Bool, ap, length, ◌∙◌}
-use Rattle.std.proofs.lemmas.List.{with_items_is}
+use Rattle.sg_bonds.proofs.Common.{◌≡◌, ℕ, List, Bool, ap, length, ◌∙◌, with_items_is, chosen_below, is_marked}
 use Rattle.std.proofs.lemmas.Result.{IfOk-weaker}
-use Rattle.sg_sums.specs.Sets.{chosen_below, is_marked}
 use Rattle.sg_bonds.specs.JoinsWith.{turned_at}
 use Rattle.sg_bonds.proofs.JoinsFound.{turned_places}
 use Rattle.sg_bonds.proofs.joins.terminals_turned.Goals as goal

@@ -1,5 +1,4 @@
-use Rattle.std.proofs.Common.{false, set, ◌∙◌, length-set}
-use Rattle.sg_graph.specs.Web.{edge_count}
+use Rattle.sg_bonds.proofs.Common.{false, set, ◌∙◌, length-set, edge_count}
 use Rattle.sg_bonds.proofs.JoinsFound.{places_low, places_rise, turned_least, turned_terminals}
 use Rattle.sg_bonds.proofs.joins.turned_join.Goals as goal
 

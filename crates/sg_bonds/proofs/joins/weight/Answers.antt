@@ -1,6 +1,4 @@
-use Rattle.std.proofs.Common.{ap, arith, pos, ◌∙◌, ◌≡◌, w64}
-use Rattle.std.proofs.lemmas.Int.{fits_signed_from_abs, to_z_pos}
-use Rattle.sg_graph.specs.Web.{weight_of}
+use Rattle.sg_bonds.proofs.Common.{ap, arith, pos, ◌∙◌, ◌≡◌, w64, fits_signed_from_abs, to_z_pos, weight_of}
 use Rattle.sg_graph.proofs.OnceLists.{rising_light}
 use Rattle.sg_bonds.proofs.joins.weight.Goals as goal
 

@@ -1,5 +1,4 @@
-use Rattle.std.proofs.Common.{◌∙◌, List, Bool, length, sym, ap, subst}
-use Rattle.sg_walk.specs.Walk.{has}
+use Rattle.sg_bonds.proofs.Common.{◌∙◌, List, Bool, length, sym, ap, subst, has}
 use Rattle.sg_bonds.specs.Cluster.{HasRigid}
 use Rattle.sg_bonds.proofs.ClusterNames.{has_rigid}
 use Rattle.sg_bonds.proofs.naming.clusters_by.Goals as goal

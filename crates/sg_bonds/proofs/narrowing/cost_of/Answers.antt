@@ -1,6 +1,4 @@
-use Rattle.std.proofs.Common.{rules, ◌<◌, pos, sym, subst, ap, ◌∙◌, length, get_or, arith, w64, to_z-of_z}
-use Rattle.std.proofs.lemmas.Grind.{common_steps}
-use Rattle.std.proofs.lemmas.List.{get_or_default}
+use Rattle.sg_bonds.proofs.Common.{rules, ◌<◌, pos, sym, subst, ap, ◌∙◌, length, get_or, arith, w64, to_z-of_z, common_steps, get_or_default}
 use Rattle.sg_bonds.specs.Bounds.{IsMet, unbounded}
 use Rattle.sg_bonds.specs.Cost.{IsCost}
 use Rattle.sg_bonds.specs.declared.bounds.Bound.{Bound}

@@ -1,5 +1,4 @@
-use Rattle.std.proofs.Common.{sym, subst, arith}
-use Rattle.std.proofs.lemmas.List.{get_or_default}
+use Rattle.sg_bonds.proofs.Common.{sym, subst, arith, get_or_default}
 use Rattle.sg_bonds.specs.Bounds.{IsKnown, bound_at}
 use Rattle.sg_bonds.proofs.NarrowedBounds.{known_more, narrows_through}
 use Rattle.sg_bonds.proofs.narrowing.settle_all.Goals as goal

@@ -1,5 +1,4 @@
-use Rattle.std.proofs.Common.{pos, ap, ◌+◌, ◌∙◌}
-use Rattle.std.proofs.lemmas.List.{get_or_default, length_push}
+use Rattle.sg_bonds.proofs.Common.{pos, ap, ◌+◌, ◌∙◌, get_or_default, length_push}
 use Rattle.sg_bonds.specs.Bounds.{unbounded}
 use Rattle.sg_bonds.proofs.NarrowedBounds.{just}
 use Rattle.sg_bonds.proofs.PathBounds.{marks_more}

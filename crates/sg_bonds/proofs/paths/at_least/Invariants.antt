@@ -1,5 +1,4 @@
-use Rattle.std.proofs.Common.{◌≡◌, ◌<◌, ℕ, length}
-use Rattle.sg_walk.specs.Walk.{has}
+use Rattle.sg_bonds.proofs.Common.{◌≡◌, ◌<◌, ℕ, length, has}
 use Rattle.sg_bonds.specs.Bounds.{costs_at_least}
 use Rattle.sg_bonds.proofs.paths.at_least.Given as goal
 

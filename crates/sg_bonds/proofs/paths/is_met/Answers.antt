@@ -1,8 +1,4 @@
-use Rattle.std.proofs.Common.{rules, ◌<◌, ◌≤ℤ◌, pos, subst, length, get_or, w64, to_z-of_z, arith, ℤ, List, Bool}
-use Rattle.std.proofs.lemmas.List.{get_or_default}
-use Rattle.sg_walk.specs.Walk.{has}
-use Rattle.sg_model.specs.Connected.{Reached}
-use Rattle.sg_model.specs.Ising.{bond_at}
+use Rattle.sg_bonds.proofs.Common.{rules, ◌<◌, ◌≤ℤ◌, pos, subst, length, get_or, w64, to_z-of_z, arith, ℤ, List, Bool, get_or_default, has, Reached, bond_at}
 use Rattle.sg_bonds.specs.Bounds.{unbounded}
 use Rattle.sg_bonds.proofs.NarrowedBounds.{just}
 use Rattle.sg_bonds.proofs.PathBounds.{met_by_path}

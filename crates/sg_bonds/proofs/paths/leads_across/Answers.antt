@@ -1,9 +1,4 @@
-use Rattle.std.proofs.Common.{rules, ◌≡◌, true, false, get_or, sym, subst, refl, arith}
-use Rattle.std.proofs.lemmas.Grind.{elements}
-use Rattle.sg_model.specs.declared.bond.Bond.{Bond}
-use Rattle.sg_model.specs.Ising.{bond_at}
-use Rattle.sg_model.specs.Connected.{Reached}
-use Rattle.sg_walk.specs.Walk.{has}
+use Rattle.sg_bonds.proofs.Common.{rules, ◌≡◌, true, false, get_or, sym, subst, refl, arith, elements, Bond, bond_at, Reached, has}
 use Rattle.sg_bonds.proofs.CostNumbers.{read_bond}
 use Rattle.sg_ground.proofs.WalkedSpins.{reached_by_walk}
 use Rattle.sg_bonds.proofs.paths.leads_across.Goals as goal

@@ -1,6 +1,4 @@
-use Rattle.std.proofs.Common.{rules, ◌≡◌, ◌∙◌, ap, pos, w64, to_z, of_z, to_z-of_z, ◌+ℤ◌, ◌-ℤ◌}
-use Rattle.sg_model.specs.Ising.{Ising}
-use Rattle.sg_model.specs.Energy.{weight}
+use Rattle.sg_bonds.proofs.Common.{rules, ◌≡◌, ◌∙◌, ap, pos, w64, to_z, of_z, to_z-of_z, ◌+ℤ◌, ◌-ℤ◌, Ising, weight}
 use Rattle.sg_bonds.proofs.TurnedBonds.{broken_least, join_broken, join_light}
 use Rattle.sg_bonds.proofs.states.broken_by.Goals as goal
 

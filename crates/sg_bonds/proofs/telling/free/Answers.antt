@@ -1,6 +1,4 @@
-use Rattle.std.proofs.Common.{◌<◌, ◌∙◌, ap, length, arith}
-use Rattle.std.proofs.lemmas.List.{get_or_default}
-use Rattle.sg_model.specs.Ising.{bond_count}
+use Rattle.sg_bonds.proofs.Common.{◌<◌, ◌∙◌, ap, length, arith, get_or_default, bond_count}
 use Rattle.sg_bonds.specs.declared.telling.Told.TheVariants.{Rigid, Unknown}
 use Rattle.sg_bonds.proofs.RigidBounds.{free_turned}
 use Rattle.sg_bonds.proofs.ToldBonds.{freed_true, told_more}

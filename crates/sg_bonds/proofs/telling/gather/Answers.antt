@@ -1,7 +1,4 @@
-use Rattle.std.proofs.Common.{◌≡◌, ◌↔◌, ◌+◌, ◌∙◌, true, List, Bool, ap, length, subst, sym}
-use Rattle.std.proofs.lemmas.List.{length_push}
-use Rattle.sg_model.specs.Ising.{Ising}
-use Rattle.sg_walk.specs.Walk.{has}
+use Rattle.sg_bonds.proofs.Common.{◌≡◌, ◌↔◌, ◌+◌, ◌∙◌, true, List, Bool, ap, length, subst, sym, length_push, Ising, has}
 use Rattle.sg_bonds.specs.Cost.{IsRigid}
 use Rattle.sg_bonds.proofs.ToldBonds.{marks_push}
 use Rattle.sg_bonds.proofs.telling.gather.Goals as goal

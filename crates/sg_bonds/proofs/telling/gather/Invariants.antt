@@ -1,5 +1,4 @@
-use Rattle.std.proofs.Common.{◌≡◌, ◌↔◌, ◌<◌, ℕ, true, length}
-use Rattle.sg_walk.specs.Walk.{has}
+use Rattle.sg_bonds.proofs.Common.{◌≡◌, ◌↔◌, ◌<◌, ℕ, true, length, has}
 use Rattle.sg_bonds.specs.Cost.{IsRigid}
 use Rattle.sg_bonds.proofs.telling.gather.Given as goal
 

@@ -1,6 +1,4 @@
-use Rattle.std.proofs.Common.{◌<◌, ◌∙◌, pos, length, sym, subst, arith}
-use Rattle.std.proofs.lemmas.Int.{ints}
-use Rattle.std.proofs.lemmas.List.{get_or_default}
+use Rattle.sg_bonds.proofs.Common.{◌<◌, ◌∙◌, pos, length, sym, subst, arith, ints, get_or_default}
 use Rattle.sg_bonds.specs.Cost.{IsCost}
 use Rattle.sg_bonds.specs.declared.telling.Told.TheVariants.{Rigid, Unknown}
 use Rattle.sg_bonds.specs.Told.{IsTold}

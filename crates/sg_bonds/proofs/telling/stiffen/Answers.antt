@@ -1,7 +1,4 @@
-use Rattle.std.proofs.Common.{◌<◌, ◌∙◌, ℕ, ap, length, arith}
-use Rattle.std.proofs.lemmas.List.{get_or_default}
-use Rattle.sg_model.specs.Ising.{Ising, bond_count}
-use Rattle.sg_model.specs.declared.bond.Bond.{Bond}
+use Rattle.sg_bonds.proofs.Common.{◌<◌, ◌∙◌, ℕ, ap, length, arith, get_or_default, Ising, bond_count, Bond}
 use Rattle.sg_bonds.specs.Weakened.{amount_at}
 use Rattle.sg_bonds.specs.declared.telling.Told.TheVariants.{Rigid, Unknown}
 use Rattle.sg_bonds.proofs.ToldBonds.{stiffened_true, told_more}

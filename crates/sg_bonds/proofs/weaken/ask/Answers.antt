@@ -1,7 +1,5 @@
-use Rattle.std.proofs.Common.{◌≡◌, ◌∙◌, ℤ, List, sym, subst, ap, rules}
+use Rattle.sg_bonds.proofs.Common.{◌≡◌, ◌∙◌, ℤ, List, sym, subst, ap, rules, Ising, IsGroundState, energy}
 use Rattle.std.proofs.lemmas.Result.{err_from_is_err_and}
-use Rattle.sg_model.specs.Ising.{Ising}
-use Rattle.sg_model.specs.Energy.{IsGroundState, energy}
 use Rattle.sg_bonds.specs.Weakened.{amount_at, weakened}
 use Rattle.sg_bonds.proofs.Weakening.{least_there, other_less, weaker_exceeds}
 use Rattle.sg_bonds.proofs.weaken.ask.Goals as goal

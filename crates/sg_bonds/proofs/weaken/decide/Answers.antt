@@ -1,7 +1,4 @@
-use Rattle.std.proofs.Common.{◌≡◌, ◌∙◌, ℕ, ℤ, List, ap, length, refl, replicate, set, subst, sym}
-use Rattle.sg_model.specs.declared.bond.Bond.{Bond}
-use Rattle.sg_model.specs.Ising.{Ising, bond_count}
-use Rattle.sg_model.specs.Energy.{IsGroundState}
+use Rattle.sg_bonds.proofs.Common.{◌≡◌, ◌∙◌, ℕ, ℤ, List, ap, length, refl, replicate, set, subst, sym, Bond, Ising, bond_count, IsGroundState}
 use Rattle.sg_bonds.specs.declared.weaken.Weakened.TheVariants.{Other}
 use Rattle.sg_bonds.specs.Weakened.{FitsWeakened, IsWeakened, amount_at, weakened}
 use Rattle.sg_bonds.proofs.Weakening.{alone_fits, alone_free, alone_rigid}

@@ -1,5 +1,4 @@
-use Rattle.std.proofs.Common.{arith}
-use Rattle.std.proofs.lemmas.Grind.{elements}
+use Rattle.sg_bonds.proofs.Common.{arith, elements}
 use Rattle.sg_bonds.proofs.weaken.product_at.Goals as goal
 
 pub returns-then-at-clause-value : goal.returns-then-at-clause-value

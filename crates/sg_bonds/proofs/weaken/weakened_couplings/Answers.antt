@@ -1,10 +1,8 @@
-use Rattle.std.proofs.Common.{◌≡◌, ◌<◌, ◌*◌, ◌+◌, ◌^◌, ℕ, ℤ, pos, List, [], ◌∷◌, ◌++◌, length, get_or, map, sym, ◌∙◌, ap, ap₂, subst, arith, w64, FitsSigned}
-use Rattle.std.proofs.Common.{unsigned_abs}
+use Rattle.sg_bonds.proofs.Common.{◌≡◌, ◌<◌, ◌*◌, ◌+◌, ◌^◌, ℕ, ℤ, pos, List, [], ◌∷◌, ◌++◌, length, get_or, map, sym, ◌∙◌, ap, ap₂, subst, arith, w64}
+use Rattle.sg_bonds.proofs.Common.{FitsSigned, unsigned_abs, fits_signed_from_abs, Bond, Ising, bond_at, bond_count}
 use Rattle.std.specs.List.{range_with_len}
-use Rattle.std.proofs.lemmas.Int.{fits_signed_from_abs, to_z-of_z}
+use Rattle.std.proofs.lemmas.Int.{to_z-of_z}
 use Rattle.std.proofs.lemmas.List.FromFn.{map-range_with_len_more}
-use Rattle.sg_model.specs.declared.bond.Bond.{Bond}
-use Rattle.sg_model.specs.Ising.{Ising, bond_at, bond_count}
 use Rattle.sg_bonds.specs.Weakened.{amount_at, weakened_coupling}
 use Rattle.sg_bonds.proofs.Weakening.{coupling_fits, coupling_size}
 use Rattle.sg_bonds.proofs.weaken.weakened_couplings.Goals as goal

@@ -1,5 +1,4 @@
-use Rattle.std.proofs.Common.{arith}
-use Rattle.std.proofs.lemmas.Grind.{common_steps}
+use Rattle.sg_bonds.proofs.Common.{arith, common_steps}
 use Rattle.sg_bonds.proofs.weaken.weaker.Goals as goal
 
 pub returns-then-product-eq1 : goal.returns-then-product-eq1

@@ -1,11 +1,6 @@
-use Rattle.std.proofs.Common.{◌≡◌, ◌≤◌, ◌∙◌, ℤ, List, length, ap, ap₂, subst, sym}
-use Rattle.std.proofs.lemmas.List.{length-map}
+use Rattle.sg_bonds.proofs.Common.{◌≡◌, ◌≤◌, ◌∙◌, ℤ, List, length, ap, ap₂, subst, sym, length-map, forced_limit, Ising, bond_at, bond_count, weight, Embedding}
 use Rattle.std.proofs.lemmas.List.FromFn.{length-map-range_with_len}
-use Rattle.sg_limits.specs.Limits.{forced_limit}
-use Rattle.sg_model.specs.Ising.{Ising, bond_at, bond_count}
-use Rattle.sg_model.specs.Energy.{weight}
 use Rattle.sg_model.specs.Changes.{opposite, with_couplings}
-use Rattle.sg_planar.specs.Fit.{Embedding}
 use Rattle.sg_bonds.specs.Weakened.{amount_at, weakened_coupling, weakened_couplings}
 use Rattle.sg_bonds.proofs.Weakening.{couplings_of_negated, weaker_fits}
 use Rattle.sg_bonds.proofs.weaken.weaker_copy.Goals as goal

@@ -1,8 +1,5 @@
-use Rattle.std.proofs.Common.{◌≡◌, Option, List, ℕ, sym, ◌∙◌, subst, IfSome}
-use Rattle.sg_model.specs.Connected.{IsConnected}
-use Rattle.sg_model.specs.Energy.{IsGroundState}
+use Rattle.sg_bonds.proofs.Common.{◌≡◌, Option, List, ℕ, sym, ◌∙◌, subst, IfSome, IsConnected, IsGroundState, Embedding}
 use Rattle.sg_graph.specs.Join.{IsJoin, IsLeastJoin}
-use Rattle.sg_planar.specs.Fit.{Embedding}
 use Rattle.sg_dual.specs.Dual.{dual_web, frustrated_faces}
 use Rattle.sg_ground.proofs.BrokenJoins.{ground_by_join}
 use Rattle.sg_bonds.proofs.states.BondStates.ground_state.Goals as goal

@@ -1,6 +1,4 @@
-use Rattle.std.proofs.Common.{Option, subst, IfSome}
-use Rattle.sg_model.specs.Connected.{IsConnected}
-use Rattle.sg_planar.specs.Fit.{Embedding}
+use Rattle.sg_bonds.proofs.Common.{Option, subst, IfSome, IsConnected, Embedding}
 use Rattle.sg_bonds.specs.declared.states.Finder.{Finder}
 use Rattle.sg_bonds.specs.JoinsWith.{IsDualOf}
 use Rattle.sg_bonds.proofs.JoinStates.{always_found, dual_terminals}

@@ -1,9 +1,5 @@
-use Rattle.std.proofs.Common.{◌≡◌, ◌∙◌, Option, pos, ap, subst, arith, IfOk, IfSome}
-use Rattle.sg_model.specs.Ising.{bond_count}
-use Rattle.sg_model.specs.Connected.{IsConnected}
-use Rattle.sg_graph.specs.Web.{Graph, weight_of}
+use Rattle.sg_bonds.proofs.Common.{◌≡◌, ◌∙◌, Option, pos, ap, subst, arith, IfOk, IfSome, bond_count, IsConnected, Graph, weight_of, Embedding}
 use Rattle.sg_dual.specs.Dual.{dual_web}
-use Rattle.sg_planar.specs.Fit.{Embedding}
 use Rattle.sg_bonds.specs.declared.states.Finder.{Finder}
 use Rattle.sg_bonds.specs.declared.states.WeighedEdges.{WeighedEdges}
 use Rattle.sg_bonds.specs.JoinsWith.{IsDualOf}

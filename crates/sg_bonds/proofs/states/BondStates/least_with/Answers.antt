@@ -1,9 +1,5 @@
-use Rattle.std.proofs.Common.{◌≡◌, Option, pos, ap, ap₂, sym, ◌∙◌, subst, IfSome}
-use Rattle.sg_model.specs.Ising.{bond_at}
-use Rattle.sg_model.specs.Connected.{IsConnected}
-use Rattle.sg_graph.specs.Web.{weight_of}
+use Rattle.sg_bonds.proofs.Common.{◌≡◌, Option, pos, ap, ap₂, sym, ◌∙◌, subst, IfSome, bond_at, IsConnected, weight_of, Embedding}
 use Rattle.sg_dual.specs.Dual.{dual_web}
-use Rattle.sg_planar.specs.Fit.{Embedding}
 use Rattle.sg_bonds.specs.Cost.{IsLeastWith}
 use Rattle.sg_bonds.specs.JoinsWith.{breaks_with}
 use Rattle.sg_bonds.specs.Turned.{HasBroken}
