@@ -1,3 +1,4 @@
+use Rattle.std.proofs.Common.{rules}
 use Rattle.sg_lattice.specs.declared.kind.Kind.TheVariants.{Cylinder}
 use Rattle.sg_planar.specs.Fit.{IsUnfit}
 use Rattle.sg_draws.specs.Drawn.{AnswersEnsemble, EnsembleUnfit, drawn_lattice}
@@ -13,3 +14,6 @@ returns-in-Err-clause-served g c =
     (AnswersEnsemble c.args.size c.args.count stream) c.in-Err.ensures.unfit
     (λ refusal text status shown line. EnsembleUnfit refusal shown line)
     c.refuse_fault.ensures.named
+
+pub returns-in-Ok-clause-served : goal.returns-in-Ok-clause-served
+returns-in-Ok-clause-served g c = search rules
