@@ -1,4 +1,4 @@
-use Rattle.std.proofs.Common.{◌<◌, ◌+◌, get_or, arith}
+use Rattle.std.proofs.Common.{◌<◌, ◌+◌, get_or, arith, rules}
 use Rattle.std.specs.Char.{digit_value}
 use Rattle.std.proofs.lemmas.Int.Digits.{digits_more, digits_value_more}
 use Rattle.std.proofs.lemmas.Str.{digit_value_digit}
@@ -26,3 +26,6 @@ loop-digit-preserved c =
       digits = digits_more 10 ds i c.loop-digit-test.true c.loop-digit.invariant.digits bound;
       value = omega (arith, c.loop-digit.invariant.value, digits_value_more 10 ds i c.loop-digit-test.true, written);
     }
+
+pub returns-then-is_empty-clause-numeral : goal.returns-then-is_empty-clause-numeral
+returns-then-is_empty-clause-numeral c = search rules

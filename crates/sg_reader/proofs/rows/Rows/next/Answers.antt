@@ -1,4 +1,4 @@
-use Rattle.std.proofs.Common.{List, ap, arith}
+use Rattle.std.proofs.Common.{List, ap, arith, rules}
 use Rattle.std.proofs.lemmas.Grind.{common_steps}
 use Rattle.sg_reader.specs.Kept.{Kept}
 use Rattle.sg_reader.proofs.RecordCounts.{field_total, field_total-numbered}
@@ -17,3 +17,6 @@ invariant_of-self-then-is_kept c = grind (arith, common_steps)
 
 pub loop-self-preserved : goal.loop-self-preserved
 loop-self-preserved c = grind (arith, common_steps)
+
+pub returns-then-is_kept-clause-failed : goal.returns-then-is_kept-clause-failed
+returns-then-is_kept-clause-failed c = search rules
