@@ -13,11 +13,12 @@ use std::test::Fail;
 const FAR: u64 = u64::MAX;
 
 // The weight of the edges of a walk.
-fn walk_weight(walk: &[u32], list: &[EdgeRow]) -> u64 {
+fn walk_weight(walk: &[u32], small: &Web) -> u64 {
+    let edges = small.edges().as_slice();
     let mut weight = 0u64;
     for k in walk {
-        if (*k as usize) < list.len() {
-            weight = weight.saturating_add(list[*k as usize].2.unsigned_abs());
+        if (*k as usize) < edges.len() {
+            weight = weight.saturating_add(edges[*k as usize].w.unsigned_abs());
         }
     }
     weight
@@ -39,7 +40,6 @@ fn expect_far(
     table: &Table,
     node: u32,
     far: u64,
-    list: &[EdgeRow],
 ) -> Result<(), NoMemory>
     requires table { IsTableOf small.now table.now }
     requires node { node < small.now.nodes }
@@ -50,7 +50,7 @@ fn expect_far(
         expect(rt, "distance", table.distance(node).unsigned_abs() == far);
         let walk = path(alloc, small, table, node)?;
         let edges = walk.as_slice();
-        expect(rt, "walk", walk_weight(edges, list) == far);
+        expect(rt, "walk", walk_weight(edges, small) == far);
         expect(rt, "last edge of a walk", last_of(edges) == parent);
     } else {
         expect(rt, "no parent", parent.is_none());
@@ -70,7 +70,7 @@ fn agrees(
         let table = distances(alloc, &small, source)?;
         for node in 0..5u32 {
             let wanted = far[source as usize][node as usize];
-            expect_far(rt, alloc, &small, &table, node, wanted, list)?;
+            expect_far(rt, alloc, &small, &table, node, wanted)?;
         }
     }
     Ok(())
