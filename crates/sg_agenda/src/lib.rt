@@ -4,14 +4,10 @@
 //! - [`Event`] is one of them: its time, and what it is about ([`Subject`]).
 //!
 //! For the next engineer: nothing is promised of the order, since callers have judged what comes of it.
-//! Each function must only be safe and terminate. Lists are cleared and reused, not made anew. The only
-//! error is running out of memory. `agenda.rt` has all of it.
+//! Each function must only be safe and terminate. Lists are cleared and reused, not made anew; an event
+//! for which there is no memory is left out, and `is_short` tells so. `agenda.rt` has all of it.
 #![tactic(auto)]
 
 mod agenda;
 
 pub use agenda::{Agenda, Event, Subject};
-use std::alloc::AllocError;
-
-/// The allocator had no memory left.
-pub type NoMemory = AllocError;

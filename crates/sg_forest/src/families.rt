@@ -4,8 +4,7 @@
 // the top, and a base. A region belongs to the family of the largest part of its top, and keeps by how
 // much the radii over it differ from the base (`radii`). So the top over a region is found in two
 // looks however deep a blossom is, and a change of the top is one write.
-use super::NoMemory;
-use sg_slots::{copy_list, number, put_entry, set_entry};
+use sg_slots::{Store, number, set_entry};
 use std::alloc::Global;
 
 /// The top of a family, and the base that its regions count from.
@@ -18,52 +17,56 @@ pub struct Family {
 /// The families, and the names of those that are gone, to be used again.
 #[derive(Drop)]
 pub struct Families {
-    families: Vec<Family>,
-    free: Vec<u32>,
+    families: Store<Family>,
+    free: Store<u32>,
 }
 
 impl Families {
     /// No families, with room for so many.
-    pub fn new(alloc: Global, room: usize) -> Result<Families, NoMemory> {
-        Ok(Families {
-            families: Vec::with_capacity(alloc, room)?,
-            free: Vec::new(alloc),
-        })
+    pub fn new(alloc: Global, room: usize) -> Families {
+        Families {
+            families: Store::with_room(alloc, room),
+            free: Store::new(alloc),
+        }
+    }
+
+    /// Whether a list found no memory.
+    pub fn is_short(&self) -> bool {
+        self.families.is_short() || self.free.is_short()
     }
 
     /// A new family of a top, with base 0.
-    pub fn found(&mut self, top: u32) -> Result<u32, NoMemory> {
-        let family = match self.free.pop() {
+    pub fn found(&mut self, top: u32) -> u32 {
+        let family = match self.free.items.pop() {
             Some(family) => family,
-            None => number(self.families.len()),
+            None => number(self.families.items.len()),
         };
-        put_entry(&mut self.families, family, Family { top, base: 0 })?;
-        Ok(family)
+        self.families.put(family, Family { top, base: 0 });
+        family
     }
 
     /// A family goes, but is there to be read until its name is used again.
-    pub fn free(&mut self, family: u32) -> Result<(), NoMemory> {
-        self.free.push(family)?;
-        Ok(())
+    pub fn free(&mut self, family: u32) {
+        self.free.push(family);
     }
 
     /// A family by its name.
     pub fn family(&self, name: u32) -> Family {
-        match self.families.get(name as usize) {
+        match self.families.items.get(name as usize) {
             Some(family) => *family,
             None => Family { top: 0, base: 0 },
         }
     }
 
     /// Makes all as it is in others.
-    pub fn restore(&mut self, base: &Families) -> Result<(), NoMemory> {
-        copy_list(&mut self.families, &base.families)?;
-        copy_list(&mut self.free, &base.free)
+    pub fn restore(&mut self, base: &Families) {
+        self.families.copy(&base.families.items);
+        self.free.copy(&base.free.items);
     }
 
     /// A family has another top, and so much more of a base.
     pub fn rise(&mut self, name: u32, top: u32, more: i64) {
         let base = self.family(name).base.wrapping_add(more);
-        set_entry(&mut self.families, name, Family { top, base });
+        set_entry(&mut self.families.items, name, Family { top, base });
     }
 }

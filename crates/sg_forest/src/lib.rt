@@ -11,8 +11,8 @@
 //! operation on a forest keeps to it, and callers get the bound from the type.
 //!
 //! For the next engineer: nothing else is promised of any value here, since callers have the result
-//! judged. Each function must only be safe and terminate. Lists are cleared and reused, not made anew.
-//! The only error is running out of memory.
+//! judged. Each function must only be safe and terminate. Lists are cleared and reused, not made anew;
+//! what there is no memory for is left out of them, and `Forest::is_short` tells so.
 #![tactic(auto)]
 
 mod contact;

@@ -4,9 +4,8 @@
 // and what the part differs from it. Where a blossom is made or taken apart, the regions in all of
 // its parts but the largest are moved to another family: while blossoms are only made, each is moved
 // at most as often as its top doubles. All else takes the same time for any blossoms.
-use super::NoMemory;
 use super::families::Families;
-use sg_slots::{copy_list, entry, put_entry, set_entry};
+use sg_slots::{Store, entry, set_entry};
 use std::alloc::Global;
 
 /// The part that a region plays: an outer one grows, an inner one gives way, and a free one, which
@@ -67,25 +66,30 @@ impl Growth {
 /// The radius and the role of each region.
 #[derive(Drop)]
 pub struct Radii {
-    growths: Vec<Growth>,
+    growths: Store<Growth>,
     // For each region its radius when it last became a part.
-    parts: Vec<i64>,
+    parts: Store<i64>,
     families: Families,
 }
 
 impl Radii {
     /// Of no region, with room for so many.
-    pub fn new(alloc: Global, room: usize) -> Result<Radii, NoMemory> {
-        Ok(Radii {
-            growths: Vec::with_capacity(alloc, room)?,
-            parts: Vec::with_capacity(alloc, room)?,
-            families: Families::new(alloc, room)?,
-        })
+    pub fn new(alloc: Global, room: usize) -> Radii {
+        Radii {
+            growths: Store::with_room(alloc, room),
+            parts: Store::with_room(alloc, room),
+            families: Families::new(alloc, room),
+        }
+    }
+
+    /// Whether a list found no memory.
+    pub fn is_short(&self) -> bool {
+        self.growths.is_short() || self.parts.is_short() || self.families.is_short()
     }
 
     #[inline(always)]
     fn growth(&self, name: u32) -> Growth {
-        match self.growths.get(name as usize) {
+        match self.growths.items.get(name as usize) {
             Some(growth) => *growth,
             None => Growth::top(Role::Outer, u32::MAX, 0, 0),
         }
@@ -100,7 +104,7 @@ impl Radii {
     pub fn radius(&self, name: u32, now: i64) -> i64 {
         let here = self.growth(name);
         if here.role == Role::Part {
-            entry(&self.parts, name).unwrap_or(0)
+            entry(&self.parts.items, name).unwrap_or(0)
         } else {
             here.at(now)
         }
@@ -148,57 +152,54 @@ impl Radii {
     pub fn set_radius(&mut self, name: u32, radius: i64, now: i64) {
         let here = self.growth(name);
         let growth = Growth::top(here.role, here.family, radius, now);
-        set_entry(&mut self.growths, name, growth);
+        set_entry(&mut self.growths.items, name, growth);
     }
 
     // A region is a top of a role and of a family.
     fn set_top(&mut self, name: u32, role: Role, family: u32, now: i64) {
         let growth = Growth::top(role, family, self.radius(name, now), now);
-        set_entry(&mut self.growths, name, growth);
+        set_entry(&mut self.growths.items, name, growth);
     }
 
     // A top becomes a part, as yet with nothing over it.
     fn set_part(&mut self, name: u32, now: i64) {
         let growth = self.growth(name);
-        set_entry(&mut self.parts, name, growth.at(now));
+        set_entry(&mut self.parts.items, name, growth.at(now));
         let base = self.families.family(growth.family).base;
         let part = Growth {
             role: Role::Part,
             family: growth.family,
             value: 0i64.wrapping_sub(base),
         };
-        set_entry(&mut self.growths, name, part);
+        set_entry(&mut self.growths.items, name, part);
     }
 
     // A new outer top of radius 0.
-    fn put_top(&mut self, name: u32, family: u32, now: i64) -> Result<(), NoMemory> {
-        put_entry(&mut self.parts, name, 0)?;
-        put_entry(
-            &mut self.growths,
-            name,
-            Growth::top(Role::Outer, family, 0, now),
-        )
+    fn put_top(&mut self, name: u32, family: u32, now: i64) {
+        self.parts.put(name, 0);
+        self.growths
+            .put(name, Growth::top(Role::Outer, family, 0, now));
     }
 
     /// A new outer top without parts, of a family of its own.
-    pub fn plant(&mut self, name: u32, now: i64) -> Result<(), NoMemory> {
-        let family = self.families.found(name)?;
-        self.put_top(name, family, now)
+    pub fn plant(&mut self, name: u32, now: i64) {
+        let family = self.families.found(name);
+        self.put_top(name, family, now);
     }
 
     /// Makes all as it is in others.
-    pub fn restore(&mut self, base: &Radii) -> Result<(), NoMemory> {
-        copy_list(&mut self.growths, &base.growths)?;
-        copy_list(&mut self.parts, &base.parts)?;
-        self.families.restore(&base.families)
+    pub fn restore(&mut self, base: &Radii) {
+        self.growths.copy(&base.growths.items);
+        self.parts.copy(&base.parts.items);
+        self.families.restore(&base.families);
     }
 
     /// A new outer blossom over a top, its largest part, of whose family it is.
-    pub fn crown(&mut self, blossom: u32, largest: u32, now: i64) -> Result<(), NoMemory> {
+    pub fn crown(&mut self, blossom: u32, largest: u32, now: i64) {
         let below = self.growth(largest);
         self.set_part(largest, now);
         self.families.rise(below.family, blossom, below.at(now));
-        self.put_top(blossom, below.family, now)
+        self.put_top(blossom, below.family, now);
     }
 
     /// The opposite: the largest part is a top again, and the blossom is gone.
@@ -211,42 +212,40 @@ impl Radii {
     }
 
     /// A top, given with all regions in it, becomes a part of a blossom; its own family goes.
-    pub fn join(&mut self, regions: &[u32], blossom: u32, now: i64) -> Result<(), NoMemory> {
+    pub fn join(&mut self, regions: &[u32], blossom: u32, now: i64) {
         let Some(top) = regions.first() else {
-            return Ok(());
+            return;
         };
         let own = self.growth(*top);
-        self.families.free(own.family)?;
+        self.families.free(own.family);
         self.set_part(*top, now);
         let family = self.growth(blossom).family;
         self.move_all(regions, family, own.at(now));
-        Ok(())
     }
 
     /// A part, given with all regions in it, becomes a free top with a family of its own.
-    pub fn part(&mut self, regions: &[u32], now: i64) -> Result<(), NoMemory> {
+    pub fn part(&mut self, regions: &[u32], now: i64) {
         let Some(top) = regions.first() else {
-            return Ok(());
+            return;
         };
         let radius = self.radius(*top, now);
-        let family = self.families.found(*top)?;
+        let family = self.families.found(*top);
         self.move_all(regions, family, 0i64.wrapping_sub(radius));
         self.set_top(*top, Role::Free, family, now);
-        Ok(())
     }
 
     // Moves parts into a family, with so much more over them.
     fn move_all(&mut self, regions: &[u32], family: u32, more: i64) {
         let base = self.families.family(family).base.wrapping_sub(more);
         for name in regions {
-            if let Some(growth) = entry(&self.growths, *name) {
+            if let Some(growth) = entry(&self.growths.items, *name) {
                 let over = self.families.family(growth.family).base;
                 let moved = Growth {
                     family,
                     value: growth.value.wrapping_add(over).wrapping_sub(base),
                     ..growth
                 };
-                set_entry(&mut self.growths, *name, moved);
+                set_entry(&mut self.growths.items, *name, moved);
             }
         }
     }

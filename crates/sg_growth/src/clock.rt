@@ -2,9 +2,8 @@
 //
 // Of each edge, hub and inner region one event counts, its soonest; what was entered for it before is
 // passed over when it comes. An event takes the same time for any number of edges, but for the agenda.
-use super::NoMemory;
 use sg_agenda::{Agenda, Event, Subject};
-use sg_slots::set_entry;
+use sg_slots::{Store, set_entry};
 use std::alloc::Global;
 
 /// A time that never comes.
@@ -22,9 +21,9 @@ pub struct Clock {
     agenda: Agenda,
     // For each edge the time of the event that waits for one of its arcs, and for each hub and region that of
     // its own; the list of regions goes as far as was needed.
-    edges: Vec<i64>,
-    hubs: Vec<i64>,
-    regions: Vec<i64>,
+    edges: Store<i64>,
+    hubs: Store<i64>,
+    regions: Store<i64>,
 }
 
 // The time that is there; none is before the first of all.
@@ -46,15 +45,21 @@ fn is_due(times: &mut [i64], place: u32, time: i64) -> bool {
 
 impl Clock {
     /// Time 0, at which nothing waits.
-    pub fn new(alloc: Global, edges: usize, hubs: usize) -> Result<Clock, NoMemory> {
-        Ok(Clock {
+    pub fn new(alloc: Global, edges: usize, hubs: usize) -> Clock {
+        Clock {
             now: 0,
             horizon: LAST,
-            agenda: Agenda::new(alloc)?,
-            edges: vec![in alloc; NEVER; edges]?,
-            hubs: vec![in alloc; NEVER; hubs]?,
-            regions: Vec::new(alloc),
-        })
+            agenda: Agenda::new(alloc),
+            edges: Store::filled(alloc, NEVER, edges),
+            hubs: Store::filled(alloc, NEVER, hubs),
+            regions: Store::new(alloc),
+        }
+    }
+
+    /// Whether a list found no memory.
+    pub fn is_short(&self) -> bool {
+        let are_times = self.edges.is_short() || self.hubs.is_short() || self.regions.is_short();
+        are_times || self.agenda.is_short()
     }
 
     /// Time 0 again, at which nothing waits.
@@ -62,9 +67,9 @@ impl Clock {
         self.now = 0;
         self.horizon = LAST;
         self.agenda.restart(0);
-        self.edges.fill(NEVER);
-        self.hubs.fill(NEVER);
-        self.regions.fill(NEVER);
+        self.edges.items.fill(NEVER);
+        self.hubs.items.fill(NEVER);
+        self.regions.items.fill(NEVER);
     }
 
     /// Sets the time, and forgets all events that wait. What comes after the horizon is not entered from now on. Cost:
@@ -82,9 +87,9 @@ impl Clock {
     fn forget(&mut self, list: usize) {
         for event in self.agenda.list(list) {
             match event.subject {
-                Subject::Arc(dart) => set_entry(&mut self.edges, dart / 2, NEVER),
-                Subject::Hub(hub) => set_entry(&mut self.hubs, hub, NEVER),
-                Subject::Region(name) => set_entry(&mut self.regions, name, NEVER),
+                Subject::Arc(dart) => set_entry(&mut self.edges.items, dart / 2, NEVER),
+                Subject::Hub(hub) => set_entry(&mut self.hubs.items, hub, NEVER),
+                Subject::Region(name) => set_entry(&mut self.regions.items, name, NEVER),
                 Subject::Root(_) => {}
             }
         }
@@ -102,72 +107,69 @@ impl Clock {
 
     /// When the event of an arc or of its way back comes that waits.
     pub fn due(&self, dart: u32) -> i64 {
-        time_at(&self.edges, dart / 2)
+        time_at(&self.edges.items, dart / 2)
     }
 
     /// Enters the event of an arc, if it comes before what waits at the arc or at its way back.
-    pub fn expect_arc(&mut self, dart: u32, time: i64) -> Result<(), NoMemory> {
-        if time <= self.horizon && time < time_at(&self.edges, dart / 2) {
-            set_entry(&mut self.edges, dart / 2, time);
-            return self.agenda.push(Event {
+    pub fn expect_arc(&mut self, dart: u32, time: i64) {
+        if time <= self.horizon && time < time_at(&self.edges.items, dart / 2) {
+            set_entry(&mut self.edges.items, dart / 2, time);
+            self.agenda.push(Event {
                 time,
                 subject: Subject::Arc(dart),
             });
         }
-        Ok(())
     }
 
     /// Enters the event of a hub, if it comes before what waits there.
-    pub fn expect_hub(&mut self, hub: u32, time: i64) -> Result<(), NoMemory> {
-        if time <= self.horizon && time < time_at(&self.hubs, hub) {
-            set_entry(&mut self.hubs, hub, time);
-            return self.agenda.push(Event {
+    pub fn expect_hub(&mut self, hub: u32, time: i64) {
+        if time <= self.horizon && time < time_at(&self.hubs.items, hub) {
+            set_entry(&mut self.hubs.items, hub, time);
+            self.agenda.push(Event {
                 time,
                 subject: Subject::Hub(hub),
             });
         }
-        Ok(())
     }
 
     /// Enters the event of an inner region, which comes so much later, if it comes before what waits there.
-    pub fn expect_region(&mut self, name: u32, left: i64) -> Result<(), NoMemory> {
+    pub fn expect_region(&mut self, name: u32, left: i64) {
         let time = self.now.wrapping_add(left);
         if time > self.horizon {
-            return Ok(());
+            return;
         }
         let place = name as usize;
-        if place >= self.regions.len() {
-            self.regions.resize(place + 1, NEVER)?;
+        if place >= self.regions.items.len() {
+            self.regions.resize(place + 1, NEVER);
         }
-        if time < time_at(&self.regions, name) {
-            set_entry(&mut self.regions, name, time);
-            return self.agenda.push(Event {
+        if time < time_at(&self.regions.items, name) {
+            set_entry(&mut self.regions.items, name, time);
+            self.agenda.push(Event {
                 time,
                 subject: Subject::Region(name),
             });
         }
-        Ok(())
     }
 
     /// Enters the event of a cycle at rest, which becomes a root so much later.
-    pub fn expect_root(&mut self, name: u32, left: i64) -> Result<(), NoMemory> {
+    pub fn expect_root(&mut self, name: u32, left: i64) {
         self.agenda.push(Event {
             time: self.now.wrapping_add(left),
             subject: Subject::Root(name),
-        })
+        });
     }
 
     /// Takes the next event out, unless it comes after a time.
-    pub fn pop(&mut self, until: i64) -> Result<Option<Event>, NoMemory> {
+    pub fn pop(&mut self, until: i64) -> Option<Event> {
         self.agenda.pop(until)
     }
 
     /// Goes on to an event, unless another was entered in its place.
     pub fn begin(&mut self, event: &Event) -> bool {
         let counts = match event.subject {
-            Subject::Arc(dart) => is_due(&mut self.edges, dart / 2, event.time),
-            Subject::Hub(hub) => is_due(&mut self.hubs, hub, event.time),
-            Subject::Region(name) => is_due(&mut self.regions, name, event.time),
+            Subject::Arc(dart) => is_due(&mut self.edges.items, dart / 2, event.time),
+            Subject::Hub(hub) => is_due(&mut self.hubs.items, hub, event.time),
+            Subject::Region(name) => is_due(&mut self.regions.items, name, event.time),
             Subject::Root(_) => true,
         };
         if counts {

@@ -7,8 +7,7 @@
 //
 // A node is deep in a region if all its neighbours were seen to lie in it. It is deep as long as the
 // region is there and none of the neighbours is left; such a node need not be woken.
-use super::NoMemory;
-use sg_slots::{Slot, copy_list, entry, number, put_entry, set_entry};
+use sg_slots::{Slot, Store, entry, number, set_entry};
 use std::alloc::Global;
 
 // With at least one region for so many nodes, all nodes are cleared at once.
@@ -61,9 +60,9 @@ struct Row {
 /// The nodes, with the regions that hold them.
 #[derive(Drop)]
 pub struct Cover {
-    taken: Vec<Taken>,
-    places: Vec<Place>,
-    rows: Vec<Row>,
+    taken: Store<Taken>,
+    places: Store<Place>,
+    rows: Store<Row>,
     births: u32,
 }
 
@@ -88,25 +87,30 @@ fn bare() -> Taken {
 
 impl Cover {
     /// So many nodes, none of them covered, with room for so many regions.
-    pub fn new(alloc: Global, nodes: usize, room: usize) -> Result<Cover, NoMemory> {
+    pub fn new(alloc: Global, nodes: usize, room: usize) -> Cover {
         let place = Place {
             next: Slot::none(),
             previous: Slot::none(),
             deep: Slot::none(),
             birth: 0,
         };
-        Ok(Cover {
-            taken: vec![in alloc; bare(); nodes]?,
-            places: vec![in alloc; place; nodes]?,
-            rows: Vec::with_capacity(alloc, room)?,
+        Cover {
+            taken: Store::filled(alloc, bare(), nodes),
+            places: Store::filled(alloc, place, nodes),
+            rows: Store::with_room(alloc, room),
             births: 0,
-        })
+        }
+    }
+
+    /// Whether a list found no memory.
+    pub fn is_short(&self) -> bool {
+        self.taken.is_short() || self.places.is_short() || self.rows.is_short()
     }
 
     /// What the node's region knows of it, if one holds it.
     #[inline(always)]
     pub fn held(&self, node: u32) -> Option<Held> {
-        let taken = self.taken.get(node as usize)?;
+        let taken = self.taken.items.get(node as usize)?;
         let region = taken.region.number()?;
         Some(Held {
             region,
@@ -118,7 +122,7 @@ impl Cover {
     /// The node that the same region took before this one: the one before it in the row, unless that belongs to a
     /// part, or to the region whose row comes before.
     pub fn before(&self, node: u32) -> Slot {
-        let Some(place) = self.places.get(node as usize) else {
+        let Some(place) = self.places.items.get(node as usize) else {
             return Slot::none();
         };
         match place.previous.number() {
@@ -129,22 +133,22 @@ impl Cover {
 
     // The region that took a node.
     fn region(&self, node: u32) -> Slot {
-        match self.taken.get(node as usize) {
+        match self.taken.items.get(node as usize) {
             Some(taken) => taken.region,
             None => Slot::none(),
         }
     }
 
     /// A new region without nodes, also under a name that is used again.
-    pub fn open(&mut self, name: u32) -> Result<(), NoMemory> {
+    pub fn open(&mut self, name: u32) {
         let birth = Slot::of(self.births);
         self.births = self.births.wrapping_add(1);
-        put_entry(&mut self.rows, name, no_row(birth))
+        self.rows.put(name, no_row(birth));
     }
 
     /// A region goes: it has no nodes, and no node is deep in it.
     pub fn close(&mut self, name: u32) {
-        set_entry(&mut self.rows, name, no_row(Slot::none()));
+        set_entry(&mut self.rows.items, name, no_row(Slot::none()));
     }
 
     /// Whether there is a region of this name.
@@ -154,7 +158,7 @@ impl Cover {
 
     // The row of a region.
     fn row(&self, name: u32) -> Row {
-        entry(&self.rows, name).unwrap_or(no_row(Slot::none()))
+        entry(&self.rows.items, name).unwrap_or(no_row(Slot::none()))
     }
 
     /// The first node in the row of a region.
@@ -182,7 +186,7 @@ impl Cover {
 
     /// The radius at which a node was taken.
     pub fn radius_at(&self, node: u32) -> i64 {
-        match self.taken.get(node as usize) {
+        match self.taken.items.get(node as usize) {
             Some(taken) => taken.radius,
             None => 0,
         }
@@ -196,14 +200,14 @@ impl Cover {
             terminal: held.terminal,
             radius: held.radius,
         };
-        set_entry(&mut self.taken, node, taken);
+        set_entry(&mut self.taken.items, node, taken);
         let place = Place {
             next: Slot::none(),
             previous: row.tail,
             deep: Slot::none(),
             birth: 0,
         };
-        set_entry(&mut self.places, node, place);
+        set_entry(&mut self.places.items, node, place);
         let head = self.link(row, Slot::of(node));
         let row = Row {
             head,
@@ -211,7 +215,7 @@ impl Cover {
             last: Slot::of(node),
             birth: row.birth,
         };
-        set_entry(&mut self.rows, held.region, row);
+        set_entry(&mut self.rows.items, held.region, row);
     }
 
     // Links the end of a row to a node, and gives the first node of the longer row.
@@ -226,14 +230,14 @@ impl Cover {
     }
 
     fn set_next(&mut self, node: u32, next: Slot) {
-        if (node as usize) < self.places.len() {
-            self.places[node as usize].next = next;
+        if (node as usize) < self.places.items.len() {
+            self.places.items[node as usize].next = next;
         }
     }
 
     fn set_previous(&mut self, node: u32, previous: Slot) {
-        if (node as usize) < self.places.len() {
-            self.places[node as usize].previous = previous;
+        if (node as usize) < self.places.items.len() {
+            self.places.items[node as usize].previous = previous;
         }
     }
 
@@ -241,7 +245,7 @@ impl Cover {
     pub fn leave(&mut self, name: u32, node: u32) {
         let row = self.row(name);
         let before = self.before(node);
-        let Some(place) = entry(&self.places, node) else {
+        let Some(place) = entry(&self.places.items, node) else {
             return;
         };
         let head = match place.previous.number() {
@@ -251,14 +255,14 @@ impl Cover {
             }
             None => place.next,
         };
-        set_entry(&mut self.taken, node, bare());
+        set_entry(&mut self.taken.items, node, bare());
         let shorter = Row {
             head,
             tail: place.previous,
             last: before,
             birth: row.birth,
         };
-        set_entry(&mut self.rows, name, shorter);
+        set_entry(&mut self.rows.items, name, shorter);
     }
 
     /// The row of a part comes behind that of the whole; the part keeps the ends of its own.
@@ -274,7 +278,7 @@ impl Cover {
                 last: row.last,
                 birth: row.birth,
             };
-            set_entry(&mut self.rows, whole, longer);
+            set_entry(&mut self.rows.items, whole, longer);
         }
     }
 
@@ -292,7 +296,7 @@ impl Cover {
         let Some(region) = place.deep.number() else {
             return false;
         };
-        match self.rows.get(region as usize) {
+        match self.rows.items.get(region as usize) {
             Some(row) => row.birth.is(place.birth),
             None => false,
         }
@@ -301,11 +305,11 @@ impl Cover {
     /// The first node that is not deep in a stretch of a row, from a node on to the end of the stretch.
     pub fn shallow(&self, first: Slot, end: Slot) -> Shallow {
         let mut here = first;
-        for passed in 0..self.places.len() {
+        for passed in 0..self.places.items.len() {
             let Some(node) = here.number() else {
                 return Shallow { node: here, passed };
             };
-            let Some(place) = self.places.get(node as usize) else {
+            let Some(place) = self.places.items.get(node as usize) else {
                 break;
             };
             if !self.is_deep(place) {
@@ -320,13 +324,13 @@ impl Cover {
         }
         Shallow {
             node: Slot::none(),
-            passed: self.places.len(),
+            passed: self.places.items.len(),
         }
     }
 
     /// The node behind another in a stretch of a row.
     pub fn behind(&self, node: u32, end: Slot) -> Slot {
-        match self.places.get(node as usize) {
+        match self.places.items.get(node as usize) {
             Some(place) if !end.is(node) => place.next,
             _ => Slot::none(),
         }
@@ -335,12 +339,12 @@ impl Cover {
     /// Notes that all neighbours of a node lie in a region.
     pub fn set_deep(&mut self, node: u32, region: u32) {
         let birth = self.row(region).birth.number();
-        if (node as usize) < self.places.len() {
-            self.places[node as usize].deep = match birth {
+        if (node as usize) < self.places.items.len() {
+            self.places.items[node as usize].deep = match birth {
                 Some(_) => Slot::of(region),
                 None => Slot::none(),
             };
-            self.places[node as usize].birth = birth.unwrap_or(0);
+            self.places.items[node as usize].birth = birth.unwrap_or(0);
         }
     }
 
@@ -352,41 +356,40 @@ impl Cover {
     /// A region leaves all nodes that it took itself; `close` has to follow.
     pub fn uncover(&mut self, name: u32) {
         let mut last = self.row(name).last;
-        for _ in 0..self.taken.len() {
+        for _ in 0..self.taken.items.len() {
             let Some(node) = last.number() else {
                 break;
             };
             last = self.before(node);
-            set_entry(&mut self.taken, node, bare());
+            set_entry(&mut self.taken.items, node, bare());
         }
     }
 
     /// No node is covered, and there is no region. Cost: linear in the regions and in the nodes that they have.
     pub fn clear(&mut self) {
-        if self.rows.len() < self.taken.len() / MANY {
-            for name in 0..number(self.rows.len()) {
+        if self.rows.items.len() < self.taken.items.len() / MANY {
+            for name in 0..number(self.rows.items.len()) {
                 self.uncover(name);
             }
         } else {
-            self.taken.fill(bare());
+            self.taken.items.fill(bare());
         }
-        self.rows.clear();
+        self.rows.items.clear();
         self.births = 0;
     }
 
     /// Makes all as it is in another cover.
-    pub fn restore(&mut self, base: &Cover) -> Result<(), NoMemory> {
-        copy_list(&mut self.taken, &base.taken)?;
-        copy_list(&mut self.places, &base.places)?;
-        copy_list(&mut self.rows, &base.rows)?;
+    pub fn restore(&mut self, base: &Cover) {
+        self.taken.copy(&base.taken.items);
+        self.places.copy(&base.places.items);
+        self.rows.copy(&base.rows.items);
         self.births = base.births;
-        Ok(())
     }
 
     /// Notes that a neighbour of a node was left.
     pub fn unset_deep(&mut self, node: u32) {
-        if (node as usize) < self.places.len() {
-            self.places[node as usize].deep = Slot::none();
+        if (node as usize) < self.places.items.len() {
+            self.places.items[node as usize].deep = Slot::none();
         }
     }
 }

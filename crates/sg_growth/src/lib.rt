@@ -10,8 +10,8 @@
 //!
 //! For the next engineer: nothing is promised of any value here, since callers have the result judged.
 //! Each function must only be safe and terminate: a read beyond the end of a list gives nothing, a write
-//! there is dropped (`sg_slots`), and sums wrap. Lists are cleared and reused, not made anew. The only
-//! error is running out of memory.
+//! there is dropped (`sg_slots`), and sums wrap. Lists are cleared and reused, not made anew; what there is
+//! no memory for is left out of them, and `is_short` tells so.
 #![tactic(auto)]
 
 mod adjacency;

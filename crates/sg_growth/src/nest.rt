@@ -4,8 +4,7 @@
 // Regions have names from 0 on. Name `t` below the number of terminals is the region of terminal `t`,
 // at its node `seed(t)`; all others are blossoms, and a name of none of them has no parent, no nodes,
 // no parts and radius 0, and does not stand in `order`. Each call takes the same time for any nest.
-use super::NoMemory;
-use sg_slots::{Slot, entry, number, set_entry};
+use sg_slots::{Slot, Store, entry, number, set_entry};
 use std::alloc::Global;
 use std::mem::swap;
 
@@ -42,27 +41,27 @@ struct Finished {
 /// The finished regions.
 #[derive(Drop)]
 pub struct Nest {
-    taken: Vec<Taken>,
-    regions: Vec<Finished>,
+    taken: Store<Taken>,
+    regions: Store<Finished>,
     // The parts of all regions, region by region; the regions behind their parts.
-    parts: Vec<u32>,
-    order: Vec<u32>,
+    parts: Store<u32>,
+    order: Store<u32>,
 }
 
 impl Nest {
     /// The number of nodes.
     pub fn nodes(&self) -> u32 {
-        number(self.taken.len())
+        number(self.taken.items.len())
     }
 
     /// How each node was taken.
     pub fn taken(&self) -> &[Taken] {
-        &self.taken
+        &self.taken.items
     }
 
     /// The radius of that region when it took the node.
     pub fn taken_at(&self, node: u32) -> i64 {
-        match self.taken.get(node as usize) {
+        match self.taken.items.get(node as usize) {
             Some(taken) => taken.radius,
             None => 0,
         }
@@ -70,27 +69,27 @@ impl Nest {
 
     /// The node that the same region took before this one.
     pub fn before(&self, node: u32) -> Option<u32> {
-        entry(&self.taken, node)?.before.number()
+        entry(&self.taken.items, node)?.before.number()
     }
 
     /// The number of names.
     pub fn regions(&self) -> u32 {
-        number(self.regions.len())
+        number(self.regions.items.len())
     }
 
     /// The node that the region took last, its parts aside.
     pub fn last(&self, region: u32) -> Option<u32> {
-        entry(&self.regions, region)?.last.number()
+        entry(&self.regions.items, region)?.last.number()
     }
 
     /// The region that it is a part of.
     pub fn parent(&self, region: u32) -> Option<u32> {
-        entry(&self.regions, region)?.parent.number()
+        entry(&self.regions.items, region)?.parent.number()
     }
 
     /// How far the region has grown, its parts aside.
     pub fn radius(&self, region: u32) -> i64 {
-        match self.regions.get(region as usize) {
+        match self.regions.items.get(region as usize) {
             Some(finished) => finished.radius,
             None => 0,
         }
@@ -98,37 +97,43 @@ impl Nest {
 
     /// The node of the terminal, where the region is that of one.
     pub fn seed(&self, region: u32) -> Option<u32> {
-        entry(&self.regions, region)?.seed.number()
+        entry(&self.regions.items, region)?.seed.number()
     }
 
     /// The regions that a blossom was made of, in the order of its cycle.
     pub fn parts(&self, region: u32) -> &[u32] {
-        parts_of(&self.regions, &self.parts, region)
+        parts_of(&self.regions.items, &self.parts.items, region)
     }
 
     /// The part with the most nodes, a node for each region in it counted beside; none before `weigh`.
     pub fn heaviest(&self, region: u32) -> Option<u32> {
-        entry(&self.regions, region)?.heaviest.number()
+        entry(&self.regions.items, region)?.heaviest.number()
     }
 
     /// All regions that there are, once each, parts before what they are parts of.
     pub fn order(&self) -> &[u32] {
-        &self.order
+        &self.order.items
     }
 
     /// Nodes that no region has, and names of no region.
-    pub fn new(alloc: Global, nodes: usize, names: usize) -> Result<Nest, NoMemory> {
+    pub fn new(alloc: Global, nodes: usize, names: usize) -> Nest {
         let taken = Taken {
             region: Slot::none(),
             before: Slot::none(),
             radius: 0,
         };
-        Ok(Nest {
-            taken: vec![in alloc; taken; nodes]?,
-            regions: vec![in alloc; no_region(); names]?,
-            parts: Vec::with_capacity(alloc, names)?,
-            order: Vec::with_capacity(alloc, names)?,
-        })
+        Nest {
+            taken: Store::filled(alloc, taken, nodes),
+            regions: Store::filled(alloc, no_region(), names),
+            parts: Store::with_room(alloc, names),
+            order: Store::with_room(alloc, names),
+        }
+    }
+
+    /// Whether a list found no memory.
+    pub fn is_short(&self) -> bool {
+        let are_regions = self.regions.is_short() || self.parts.is_short() || self.order.is_short();
+        are_regions || self.taken.is_short()
     }
 
     /// Adds a node that a region took itself.
@@ -138,19 +143,12 @@ impl Nest {
             before,
             radius,
         };
-        set_entry(&mut self.taken, node, taken);
+        set_entry(&mut self.taken.items, node, taken);
     }
 
     /// Adds a region, as yet without parts.
-    pub fn add_region(
-        &mut self,
-        name: u32,
-        parent: Slot,
-        seed: Slot,
-        last: Slot,
-        radius: i64,
-    ) -> Result<(), NoMemory> {
-        let first = number(self.parts.len());
+    pub fn add_region(&mut self, name: u32, parent: Slot, seed: Slot, last: Slot, radius: i64) {
+        let first = number(self.parts.items.len());
         let region = Finished {
             parent,
             seed,
@@ -160,56 +158,52 @@ impl Nest {
             behind: first,
             ..no_region()
         };
-        set_entry(&mut self.regions, name, region);
+        set_entry(&mut self.regions.items, name, region);
         if parent.is_none() {
-            self.order.push(name)?;
+            self.order.push(name);
         }
-        Ok(())
     }
 
     /// Adds a part to the region that was added last.
-    pub fn add_part(&mut self, name: u32, part: u32) -> Result<(), NoMemory> {
-        self.parts.push(part)?;
-        if (name as usize) < self.regions.len() {
-            self.regions[name as usize].behind = number(self.parts.len());
+    pub fn add_part(&mut self, name: u32, part: u32) {
+        self.parts.push(part);
+        if (name as usize) < self.regions.items.len() {
+            self.regions.items[name as usize].behind = number(self.parts.items.len());
         }
-        Ok(())
     }
 
     /// Puts the regions into their order, once all are added: what lies in one top is near.
-    pub fn close(&mut self, alloc: Global) -> Result<(), NoMemory> {
-        let mut open = Vec::new(alloc);
+    pub fn close(&mut self, alloc: Global) {
+        let mut open = Store::with_room(alloc, self.order.items.len());
         swap(&mut open, &mut self.order);
-        self.order.reserve(open.len())?;
-        for _ in 0..self.regions.len() {
-            let Some(name) = open.pop() else {
+        for _ in 0..self.regions.items.len() {
+            let Some(name) = open.items.pop() else {
                 break;
             };
-            self.order.push(name)?;
-            let parts = parts_of(&self.regions, &self.parts, name);
-            open.extend_from_slice(parts)?;
+            self.order.push(name);
+            open.extend(parts_of(&self.regions.items, &self.parts.items, name));
         }
-        self.order.reverse();
-        Ok(())
+        self.order.items.reverse();
+        self.order.note(&open);
     }
 
     /// Finds the largest part of each region, once they are in their order.
-    pub fn weigh(&mut self, alloc: Global) -> Result<(), NoMemory> {
-        let mut sizes = vec![in alloc; 1u32; self.regions.len()]?;
-        count_nodes(&self.taken, &mut sizes);
-        self.weigh_parts(&mut sizes);
-        Ok(())
+    pub fn weigh(&mut self, alloc: Global) {
+        let mut sizes = Store::filled(alloc, 1u32, self.regions.items.len());
+        count_nodes(&self.taken.items, &mut sizes.items);
+        self.weigh_parts(&mut sizes.items);
+        self.order.note(&sizes);
     }
 
     // Finds the largest part of each region, by the sizes without those of parts.
     fn weigh_parts(&mut self, sizes: &mut [u32]) {
-        for name in self.order.as_slice() {
-            let parts = parts_of(&self.regions, &self.parts, *name);
+        for name in self.order.items.as_slice() {
+            let parts = parts_of(&self.regions.items, &self.parts.items, *name);
             let heaviest = heaviest_of(parts, sizes);
             let size = size_of_all(parts, sizes);
             add_at(sizes, *name, size);
-            if (*name as usize) < self.regions.len() {
-                self.regions[*name as usize].heaviest = heaviest;
+            if (*name as usize) < self.regions.items.len() {
+                self.regions.items[*name as usize].heaviest = heaviest;
             }
         }
     }

@@ -67,21 +67,19 @@ impl<'a, L: Limit> Engine<'a, L> {
     }
 
     /// Puts finished regions back, at time 0.
-    pub fn put_back(&mut self, cover: &Cover, forest: &Forest<L>) -> Result<(), NoMemory> {
-        self.cover.restore(cover)?;
-        self.forest.restore(forest)?;
+    pub fn put_back(&mut self, cover: &Cover, forest: &Forest<L>) {
+        self.cover.restore(cover);
+        self.forest.restore(forest);
         self.hubs.forget();
         self.clock.restart();
         self.unpaired = 0;
-        Ok(())
     }
 
     /// Keeps the name of the next terminal, which is none for now.
-    pub fn reserve(&mut self) -> Result<(), NoMemory> {
-        let name = self.forest.reserve()?;
-        self.cover.open(name)?;
+    pub fn reserve(&mut self) {
+        let name = self.forest.reserve();
+        self.cover.open(name);
         self.cover.close(name);
-        Ok(())
     }
 
     /// Forgets which regions were met.
@@ -102,9 +100,9 @@ impl<'a, L: Limit> Engine<'a, L> {
     }
 
     /// The parts of an uncovered blossom are tops; its name is free.
-    pub fn open_blossom(&mut self, name: u32) -> Result<(), NoMemory> {
+    pub fn open_blossom(&mut self, name: u32) {
         let now = self.clock.now();
-        self.forest.expand(name, now, &mut self.work)?;
+        self.forest.expand(name, now, &mut self.work);
         self.forest.free_name(name)
     }
 
@@ -114,11 +112,10 @@ impl<'a, L: Limit> Engine<'a, L> {
     }
 
     /// A terminal at a node that nothing covers, ungrown.
-    pub fn plant_as(&mut self, terminal: u32, node: u32) -> Result<(), NoMemory> {
-        self.forest.plant_as(terminal, self.clock.now())?;
-        self.cover.open(terminal)?;
+    pub fn plant_as(&mut self, terminal: u32, node: u32) {
+        self.forest.plant_as(terminal, self.clock.now());
+        self.cover.open(terminal);
         self.take(terminal, node, terminal);
-        Ok(())
     }
 
     /// Each of these tops is the root of a tree with so much work, and all of them grow until no tree is left.
@@ -126,12 +123,13 @@ impl<'a, L: Limit> Engine<'a, L> {
     pub fn grow_from(&mut self, roots: &[Exit], work: Work<L>) -> Result<bool, NoMemory> {
         self.unpaired = number(roots.len());
         self.work = work;
-        self.make_roots(roots)?;
-        self.go_on()
+        self.make_roots(roots);
+        let is_done = self.go_on();
+        self.unless_short(is_done)
     }
 
     // Each of these tops becomes the root of a tree.
-    pub(super) fn make_roots(&mut self, roots: &[Exit]) -> Result<(), NoMemory> {
+    pub(super) fn make_roots(&mut self, roots: &[Exit]) {
         let now = self.clock.now();
         for root in roots {
             self.forest.make_root(root.region, root.terminal, now);
@@ -140,10 +138,9 @@ impl<'a, L: Limit> Engine<'a, L> {
     }
 
     // Enters the first events of these roots.
-    fn wake_roots(&mut self, roots: &[Exit]) -> Result<(), NoMemory> {
+    fn wake_roots(&mut self, roots: &[Exit]) {
         for root in roots {
-            self.wake_region(root.region, root.region)?;
+            self.wake_region(root.region, root.region);
         }
-        Ok(())
     }
 }

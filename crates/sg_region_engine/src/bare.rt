@@ -6,7 +6,6 @@
 // is not taken apart to let them through. To look for a region that touches a node takes its arcs, but
 // at a hub one look.
 use super::Engine;
-use crate::NoMemory;
 use sg_forest::{Contact, End, Reach};
 use sg_growth::{Arc, Soon, reverse};
 use sg_work::Limit;
@@ -14,31 +13,25 @@ use sg_work::Limit;
 impl<'a, L: Limit> Engine<'a, L> {
     // An outer region comes to a bare node of a free one. If another touches that node, the two meet;
     // and at a hub it may have to wait for another. Whether that is all there is to the event.
-    pub(super) fn meet_at_bare(
-        &mut self,
-        node: u32,
-        here: Reach,
-        arc: &Arc,
-        own: End,
-    ) -> Result<bool, NoMemory> {
+    pub(super) fn meet_at_bare(&mut self, node: u32, here: Reach, arc: &Arc, own: End) -> bool {
         if let Some(hub) = self.hubs.number_of(arc.to) {
             return self.meet_at_hub(node, here, arc, hub, own);
         }
         match self.touching(arc.to, here.top) {
             Some(other) => {
-                self.meet_through(node, arc, Contact { own, other })?;
-                Ok(true)
+                self.meet_through(node, arc, Contact { own, other });
+                true
             }
-            None => Ok(false),
+            None => false,
         }
     }
 
     // Two outer regions meet at a bare node, the first of them over an arc.
-    fn meet_through(&mut self, node: u32, arc: &Arc, contact: Contact) -> Result<(), NoMemory> {
-        self.meet(contact)?;
+    fn meet_through(&mut self, node: u32, arc: &Arc, contact: Contact) {
+        self.meet(contact);
         match self.outer_reach(node) {
             Some(here) => self.expect(node, here, arc),
-            None => Ok(()),
+            None => {}
         }
     }
 
@@ -79,14 +72,7 @@ impl<'a, L: Limit> Engine<'a, L> {
     // The same at a hub: the other region is the last that touched it, if it still does. If that is this
     // region itself, and the arc over which it touched waits, that one stands for both. Where there is
     // none, the event waits behind those of its time, once.
-    fn meet_at_hub(
-        &mut self,
-        node: u32,
-        here: Reach,
-        arc: &Arc,
-        hub: u32,
-        own: End,
-    ) -> Result<bool, NoMemory> {
+    fn meet_at_hub(&mut self, node: u32, here: Reach, arc: &Arc, hub: u32, own: End) -> bool {
         let time = self.clock.now();
         let mut waited = false;
         if let Some(last) = self.hubs.touched(hub) {
@@ -97,35 +83,28 @@ impl<'a, L: Limit> Engine<'a, L> {
                 Some(there) if there.top != here.top => {
                     return self.meet_last(node, arc, hub, own, last.dart);
                 }
-                Some(_) if self.clock.due(last.dart) == time => return Ok(true),
+                Some(_) if self.clock.due(last.dart) == time => return true,
                 Some(_) => waited = last.time == time,
                 None => {}
             }
         }
         if waited {
-            return Ok(false);
+            return false;
         }
         let dart = arc.dart;
         self.hubs.touch(hub, Some(Soon { time, dart }));
-        self.expect(node, here, arc)?;
-        Ok(true)
+        self.expect(node, here, arc);
+        true
     }
 
     // An outer region meets the one that touched a hub last.
-    fn meet_last(
-        &mut self,
-        node: u32,
-        arc: &Arc,
-        hub: u32,
-        own: End,
-        last: u32,
-    ) -> Result<bool, NoMemory> {
+    fn meet_last(&mut self, node: u32, arc: &Arc, hub: u32, own: End, last: u32) -> bool {
         let Some(other) = self.end_at(self.arcs.start(last), last) else {
-            return Ok(false);
+            return false;
         };
         self.hubs.touch(hub, None);
-        self.meet_through(node, arc, Contact { own, other })?;
-        Ok(true)
+        self.meet_through(node, arc, Contact { own, other });
+        true
     }
 
     // Whether the two regions about an inner one touch it at one bare node.

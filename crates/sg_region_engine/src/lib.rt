@@ -8,7 +8,8 @@
 //! no distances between terminals.
 //!
 //! For the next engineer: nothing is promised of what it finds, since callers have it judged. Each
-//! function must only be safe and terminate. The parts of the state have rules of their own: the forest
+//! function must only be safe and terminate. What there is no memory for is left out of a list, and the
+//! end of a run tells so. The parts of the state have rules of their own: the forest
 //! of the regions (`sg_forest`), and the cover of the nodes, the clock and the hubs' heaps
 //! (`sg_growth`). The one rule between them: if an outer region approaches something over an arc, an
 //! event waits at this arc or at its reverse, no later than the contact. The event of a hub is that of
@@ -43,6 +44,7 @@ pub use finish::Exit;
 pub use lists::Lists;
 use sg_forest::{Forest, Link, Reach, Role};
 use sg_growth::{Adjacency, Arc, Clock, Cover, Held, Hubs, NEVER, reverse};
+use sg_slots::Store;
 use sg_work::{Allowance, Growth, Limit, Work};
 use slices::Batches;
 pub use start::HeadStart;
@@ -124,9 +126,11 @@ pub struct Engine<'a, L: Limit> {
     // them.
     unpaired: u32,
     // A cycle: a list that is used again.
-    cycle: Vec<Link>,
+    cycle: Store<Link>,
     // Regions that were inner: a list that is used again.
-    inner: Vec<u32>,
+    inner: Store<u32>,
+    // Whether a list that is gone found no memory.
+    was_short: bool,
 }
 
 // An explicit `Drop`: otherwise every exit of an owner drops each list, and the prover pays for each.
@@ -156,7 +160,7 @@ impl<'a, L: Limit> Engine<'a, L> {
         requires blossoms { allowed.blossoms ≤ L.blossoms }
         requires events { allowed.work ≤ L.events }
     {
-        let lists = Lists::new(alloc, arcs, room_for(terminals))?;
+        let lists = Lists::new(alloc, arcs, room_for(terminals));
         Engine::over(alloc, lists, arcs, terminals, method, allowed)
     }
 
@@ -208,6 +212,7 @@ impl<'a, L: Limit> Engine<'a, L> {
             unpaired: _,
             cycle,
             inner,
+            was_short: _,
         } = self;
         let lists = Lists {
             cover,
@@ -234,6 +239,21 @@ impl<'a, L: Limit> Engine<'a, L> {
             blossoms: self.forest.steps(),
             events: self.work.events(),
         }
+    }
+
+    /// Whether a list found no memory. Then something is missing, and nothing may be read off.
+    pub fn is_short(&self) -> bool {
+        let are_own = self.cycle.is_short() || self.inner.is_short() || self.was_short;
+        let are_times = self.hubs.is_short() || self.clock.is_short() || self.batches.is_short();
+        are_own || are_times || self.cover.is_short() || self.forest.is_short()
+    }
+
+    // Whether a run was done, unless it found no memory.
+    fn unless_short(&self, is_done: bool) -> Result<bool, NoMemory> {
+        if self.is_short() {
+            return Err(AllocError);
+        }
+        Ok(is_done)
     }
 
     // The top over a covered node, and how far it reaches beyond: the radii from the region that took

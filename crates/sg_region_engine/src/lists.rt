@@ -5,9 +5,9 @@
 use super::open_hubs::has_hub;
 use super::slices::Batches;
 use super::{Engine, HeadStart, Parts};
-use crate::NoMemory;
 use sg_forest::{Forest, Link};
 use sg_growth::{Adjacency, Clock, Cover, Hubs, NEVER};
+use sg_slots::Store;
 use sg_work::{Limit, Work};
 use std::alloc::Global;
 
@@ -16,8 +16,8 @@ pub struct Lists {
     pub(super) cover: Cover,
     pub(super) hubs: Hubs,
     pub(super) clock: Clock,
-    pub(super) cycle: Vec<Link>,
-    pub(super) inner: Vec<u32>,
+    pub(super) cycle: Store<Link>,
+    pub(super) inner: Store<u32>,
     // Whether any node is a hub.
     pub(super) has_hub: bool,
 }
@@ -39,17 +39,17 @@ impl Drop for Lists {
 impl Lists {
     /// The lists for a graph with these arcs, with room for so many regions. Cost: linear in the nodes and
     /// arcs.
-    pub fn new(alloc: Global, arcs: &Adjacency, room: usize) -> Result<Lists, NoMemory> {
-        let hubs = Hubs::new(alloc, arcs)?;
-        let clock = Clock::new(alloc, arcs.edges(), hubs.len())?;
-        Ok(Lists {
-            cover: Cover::new(alloc, arcs.nodes(), room)?,
+    pub fn new(alloc: Global, arcs: &Adjacency, room: usize) -> Lists {
+        let hubs = Hubs::new(alloc, arcs);
+        let clock = Clock::new(alloc, arcs.edges(), hubs.len());
+        Lists {
+            cover: Cover::new(alloc, arcs.nodes(), room),
             hubs,
             clock,
-            cycle: Vec::new(alloc),
-            inner: Vec::new(alloc),
+            cycle: Store::new(alloc),
+            inner: Store::new(alloc),
             has_hub: has_hub(arcs),
-        })
+        }
     }
 
     /// Whether any node has many arcs.
@@ -105,6 +105,7 @@ impl Lists {
             unpaired: 0,
             cycle,
             inner,
+            was_short: false,
         }
     }
 }

@@ -12,10 +12,9 @@
 // paired with one another, two by two. If their number is odd, they become one blossom, an odd cycle of radius 0
 // that is paired with none: the root of a tree in what follows. There is at most one such root for each hub.
 use super::Engine;
-use crate::NoMemory;
 use sg_forest::{Contact, End, Link, Role};
 use sg_growth::{Adjacency, reverse};
-use sg_slots::{Slot, entry, number, set_entry};
+use sg_slots::{Slot, Store, entry, number, set_entry};
 use sg_work::Limit;
 
 // A node with more arcs is a hub here. A heap of its own pays only where there are many more (`Hubs`).
@@ -25,26 +24,31 @@ const MOST_ARCS: usize = 16;
 // region the guest that was added before it.
 #[derive(Drop)]
 struct Guests {
-    lasts: Vec<Slot>,
-    nexts: Vec<Slot>,
+    lasts: Store<Slot>,
+    nexts: Store<Slot>,
 }
 
 impl Guests {
     // Adds a region to the guests of a hub.
     fn add(&mut self, name: u32, node: u32) {
         let next = self.last(node);
-        set_entry(&mut self.nexts, name, next);
-        set_entry(&mut self.lasts, node, Slot::of(name));
+        set_entry(&mut self.nexts.items, name, next);
+        set_entry(&mut self.lasts.items, node, Slot::of(name));
     }
 
     // The guest of a hub that was added last.
     fn last(&self, node: u32) -> Slot {
-        entry(&self.lasts, node).unwrap_or(Slot::none())
+        entry(&self.lasts.items, node).unwrap_or(Slot::none())
     }
 
     // The guest that was added before this one.
     fn next(&self, name: u32) -> Slot {
-        entry(&self.nexts, name).unwrap_or(Slot::none())
+        entry(&self.nexts.items, name).unwrap_or(Slot::none())
+    }
+
+    // Whether a list found no memory.
+    fn is_short(&self) -> bool {
+        self.lasts.is_short() || self.nexts.is_short()
     }
 }
 
@@ -70,9 +74,9 @@ impl<'a, L: Limit> Engine<'a, L> {
     }
 
     // The region of a terminal at an open hub is paired with the hub, over any of its arcs.
-    pub(super) fn plant_at_hub(&mut self, node: u32) -> Result<(), NoMemory> {
-        let name = self.forest.reserve()?;
-        self.cover.open(name)?;
+    pub(super) fn plant_at_hub(&mut self, node: u32) {
+        let name = self.forest.reserve();
+        self.cover.open(name);
         if let Some(exit) = self.arcs.exits_of(node).first() {
             let own = End {
                 terminal: name,
@@ -80,11 +84,10 @@ impl<'a, L: Limit> Engine<'a, L> {
             };
             self.forest.set_pair(Contact::with_node(own, exit.dart));
         }
-        Ok(())
     }
 
     // A tree comes to an open hub: the pairs on the way to the root change sides, and the tree is dissolved.
-    pub(super) fn augment_at_hub(&mut self, own: End) -> Result<(), NoMemory> {
+    pub(super) fn augment_at_hub(&mut self, own: End) {
         let tree = self.forest.tree(self.forest.top(own.terminal));
         let contact = Contact::with_node(own, reverse(own.dart));
         self.forest.flip_pairs(contact, &mut self.work);
@@ -92,7 +95,7 @@ impl<'a, L: Limit> Engine<'a, L> {
     }
 
     // A tree comes to a region that is paired with an open hub: the two are paired, and the tree is dissolved.
-    pub(super) fn augment_by_hub(&mut self, contact: Contact) -> Result<(), NoMemory> {
+    pub(super) fn augment_by_hub(&mut self, contact: Contact) {
         let tree = self.forest.tree(self.forest.top(contact.own.terminal));
         self.forest.flip_pairs(contact, &mut self.work);
         self.forest.set_pair(contact.reversed());
@@ -100,31 +103,31 @@ impl<'a, L: Limit> Engine<'a, L> {
     }
 
     // Closes all hubs, and pairs the guests of each with one another.
-    pub(super) fn close_hubs(&mut self) -> Result<(), NoMemory> {
+    pub(super) fn close_hubs(&mut self) {
         self.is_open = false;
-        let guests = self.guests()?;
-        let mut ends = Vec::new(self.alloc);
+        let guests = self.guests();
+        let mut ends = Store::new(self.alloc);
         for node in 0..number(self.arcs.nodes()) {
             if !guests.last(node).is_none() {
-                self.list_ends(&guests, node, &mut ends)?;
-                self.close_hub(&ends)?;
+                self.list_ends(&guests, node, &mut ends);
+                self.close_hub(&ends.items);
             }
         }
-        Ok(())
+        self.was_short |= ends.is_short() || guests.is_short();
     }
 
     // The guests of all hubs.
-    fn guests(&self) -> Result<Guests, NoMemory> {
+    fn guests(&self) -> Guests {
         let mut guests = Guests {
-            lasts: vec![in self.alloc; Slot::none(); self.arcs.nodes()]?,
-            nexts: vec![in self.alloc; Slot::none(); self.forest.len()]?,
+            lasts: Store::filled(self.alloc, Slot::none(), self.arcs.nodes()),
+            nexts: Store::filled(self.alloc, Slot::none(), self.forest.len()),
         };
         for name in 0..number(self.forest.len()) {
             if let Some(node) = self.host(name) {
                 guests.add(name, node);
             }
         }
-        Ok(guests)
+        guests
     }
 
     // The hub that a region is paired with.
@@ -139,27 +142,26 @@ impl<'a, L: Limit> Engine<'a, L> {
     }
 
     // Lists where the guests of a hub touch it, in place of what the list had.
-    fn list_ends(&self, guests: &Guests, node: u32, ends: &mut Vec<End>) -> Result<(), NoMemory> {
-        ends.clear();
+    fn list_ends(&self, guests: &Guests, node: u32, ends: &mut Store<End>) {
+        ends.items.clear();
         let mut next = guests.last(node);
         for _ in 0..self.forest.len() {
             let Some(name) = next.number() else {
                 break;
             };
             if let Some(pair) = self.forest.pair(name) {
-                ends.push(pair.own)?;
+                ends.push(pair.own);
             }
             next = guests.next(name);
         }
-        Ok(())
     }
 
     // Closes a hub with guests at these ends: they are paired two by two, or are one odd cycle.
-    fn close_hub(&mut self, ends: &[End]) -> Result<(), NoMemory> {
+    fn close_hub(&mut self, ends: &[End]) {
         self.take_hub(ends);
         if ends.len() % 2 == 0 {
             self.pair_ends(ends);
-            return Ok(());
+            return;
         }
         self.unpaired = self.unpaired.saturating_add(1);
         if ends.len() > 1 {
@@ -169,7 +171,6 @@ impl<'a, L: Limit> Engine<'a, L> {
             let top = self.forest.top(only.terminal);
             self.forest.leave_unpaired(top, &mut self.work);
         }
-        Ok(())
     }
 
     // If the hub is a terminal, its region takes it.
@@ -211,21 +212,20 @@ impl<'a, L: Limit> Engine<'a, L> {
     }
 
     // An odd number of guests becomes a free blossom of radius 0, paired with none.
-    fn rest_at_hub(&mut self, ends: &[End]) -> Result<(), NoMemory> {
-        self.cycle.clear();
+    fn rest_at_hub(&mut self, ends: &[End]) {
+        self.cycle.items.clear();
         for (place, end) in ends.iter().enumerate() {
             if let Some(other) = next_end(ends, place) {
                 let child = self.forest.top(end.terminal);
                 let contact = self.contact_at_hub(*end, other);
-                self.cycle.push(Link { child, contact })?;
+                self.cycle.push(Link { child, contact });
             }
         }
         let now = self.clock.now();
-        let blossom = self.forest.enclose(&self.cycle, now, &mut self.work)?;
+        let blossom = self.forest.enclose(&self.cycle.items, now, &mut self.work);
         self.forest.set_role(blossom, Role::Free, now);
-        self.cover.open(blossom)?;
+        self.cover.open(blossom);
         self.append_rows(blossom);
-        Ok(())
     }
 }
 

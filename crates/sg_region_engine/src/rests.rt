@@ -13,51 +13,57 @@
 use super::{Engine, Exit};
 use crate::NoMemory;
 use sg_forest::{Contact, Role};
-use sg_slots::number;
+use sg_slots::{Store, number};
 use sg_work::Limit;
 
 impl<'a, L: Limit> Engine<'a, L> {
     /// Runs until each terminal has a mate. False if that did not come about within the work allowed. All
-    /// arcs are so many times two as long as their edges weigh.
+    /// arcs are so many times two as long as their edges weigh. The only error is running out of memory.
     pub fn run_by_method(&mut self, unit: i64) -> Result<bool, NoMemory> {
-        let mut is_done = self.go_on()?;
+        let is_done = self.go_by_method(unit);
+        self.unless_short(is_done)
+    }
+
+    // The same, but it may be that a list is short.
+    pub(super) fn go_by_method(&mut self, unit: i64) -> bool {
+        let mut is_done = self.go_on();
         if is_done && self.is_first {
             self.is_first = false;
             self.rests = 0;
-            is_done = self.go_on_from_rests(unit)?;
+            is_done = self.go_on_from_rests(unit);
         }
         if is_done && self.is_open {
-            self.close_hubs()?;
-            is_done = self.go_on_from_rests(unit)?;
+            self.close_hubs();
+            is_done = self.go_on_from_rests(unit);
         }
-        Ok(is_done)
+        is_done
     }
 
     // All that rests becomes a root, and trees grow until none is left.
-    fn go_on_from_rests(&mut self, unit: i64) -> Result<bool, NoMemory> {
-        self.end_rests(unit)?;
+    fn go_on_from_rests(&mut self, unit: i64) -> bool {
+        self.end_rests(unit);
         self.go_on()
     }
 
     // Leaves a cycle at rest that was closed in a tree, and lets the tree go. Regions of the cycle that were inner
     // are listed from a place on.
-    pub(super) fn rest(&mut self, blossom: u32, start: usize) -> Result<(), NoMemory> {
+    pub(super) fn rest(&mut self, blossom: u32, start: usize) {
         let tree = self.forest.tree(blossom);
         self.forest.leave_unpaired(blossom, &mut self.work);
         self.rests = self.rests.saturating_add(1);
-        self.let_go(tree)?;
+        self.let_go(tree);
         self.wake_inner(start, None)
     }
 
     // A tree comes to what is at rest: the pairs on the way to the root change sides, and what rests is paired:
     // in the first half, where it is a cycle of radius 0, it is taken apart.
-    pub(super) fn augment_rest(&mut self, contact: Contact) -> Result<(), NoMemory> {
+    pub(super) fn augment_rest(&mut self, contact: Contact) {
         let tree = self.forest.tree(self.forest.top(contact.own.terminal));
         let rest = self.forest.top(contact.other.terminal);
         self.batches.end(self.forest.tree(rest));
         self.forest.flip_pairs(contact, &mut self.work);
         if self.is_first {
-            self.pair_rest(contact.reversed())?;
+            self.pair_rest(contact.reversed());
         } else {
             self.forest.quit_tree(rest);
             self.forest.set_pair(contact.reversed());
@@ -68,20 +74,19 @@ impl<'a, L: Limit> Engine<'a, L> {
     }
 
     // Takes a cycle at rest apart: one of its regions is paired by a contact, the others along the cycle.
-    fn pair_rest(&mut self, contact: Contact) -> Result<(), NoMemory> {
+    fn pair_rest(&mut self, contact: Contact) {
         let blossom = self.forest.top(contact.own.terminal);
         let size = self.forest.cycles().size(blossom);
-        self.take_apart(blossom)?;
-        self.forest.free_name(blossom)?;
+        self.take_apart(blossom);
+        self.forest.free_name(blossom);
         let first = self.forest.top(contact.own.terminal);
-        self.forest.list_ahead(first, size, &mut self.cycle)?;
-        for (step, link) in self.cycle.iter().enumerate() {
+        self.forest.list_ahead(first, size, &mut self.cycle);
+        for (step, link) in self.cycle.items.iter().enumerate() {
             if step % 2 == 1 {
                 self.forest.pair_by(link.contact);
             }
         }
         self.forest.set_pair(contact);
-        Ok(())
     }
 
     // Whether a name is that of a region at rest: of a cycle that was closed in the first half, or of what was left
@@ -93,8 +98,8 @@ impl<'a, L: Limit> Engine<'a, L> {
     }
 
     // All regions at rest become roots, now or a unit later.
-    fn end_rests(&mut self, unit: i64) -> Result<(), NoMemory> {
-        let mut roots = Vec::new(self.alloc);
+    fn end_rests(&mut self, unit: i64) {
+        let mut roots = Store::new(self.alloc);
         for name in 0..number(self.forest.len()) {
             if self.is_at_rest(name) {
                 let terminal = self.terminal_in(name);
@@ -102,13 +107,14 @@ impl<'a, L: Limit> Engine<'a, L> {
                     roots.push(Exit {
                         region: name,
                         terminal,
-                    })?;
+                    });
                 } else {
-                    self.clock.expect_root(name, unit)?;
+                    self.clock.expect_root(name, unit);
                 }
             }
         }
-        self.make_roots(&roots)
+        self.make_roots(&roots.items);
+        self.was_short |= roots.is_short();
     }
 
     // Whether the radii over a terminal are an odd number of units just where the time is.
@@ -128,9 +134,9 @@ impl<'a, L: Limit> Engine<'a, L> {
     }
 
     // The event of a region that is to become a root, if it still rests.
-    pub(super) fn root_event(&mut self, name: u32) -> Result<(), NoMemory> {
+    pub(super) fn root_event(&mut self, name: u32) {
         if !self.is_at_rest(name) {
-            return Ok(());
+            return;
         }
         let terminal = self.terminal_in(name);
         self.forest.make_root(name, terminal, self.clock.now());

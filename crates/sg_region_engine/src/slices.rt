@@ -10,9 +10,8 @@
 //
 // This is exact: before and after each batch the state is one of the method, in which some trees do not grow.
 use super::Engine;
-use crate::NoMemory;
 use sg_growth::{Adjacency, NEVER, first_dart};
-use sg_slots::{entry, number, set_entry};
+use sg_slots::{Store, entry, number, set_entry};
 use sg_work::{Limit, batch_of};
 use std::alloc::Global;
 use std::mem::swap;
@@ -31,39 +30,43 @@ const SLICES: usize = 128;
 /// The trees that wait for their batch, by the names of their terminals, and for each tree whether it has a mate.
 #[derive(Drop)]
 pub struct Batches {
-    waiting: Vec<u32>,
-    has_mate: Vec<bool>,
+    waiting: Store<u32>,
+    has_mate: Store<bool>,
 }
 
 impl Batches {
     /// No trees.
     pub fn new(alloc: Global) -> Batches {
         Batches {
-            waiting: Vec::new(alloc),
-            has_mate: Vec::new(alloc),
+            waiting: Store::new(alloc),
+            has_mate: Store::new(alloc),
         }
     }
 
+    // Whether a list found no memory.
+    pub(super) fn is_short(&self) -> bool {
+        self.waiting.is_short() || self.has_mate.is_short()
+    }
+
     // Adds a tree without a mate.
-    fn add(&mut self, name: u32) -> Result<(), NoMemory> {
-        self.waiting.push(name)?;
-        if name as usize >= self.has_mate.len() {
-            self.has_mate.resize(name as usize + 1, true)?;
+    fn add(&mut self, name: u32) {
+        self.waiting.push(name);
+        if name as usize >= self.has_mate.items.len() {
+            self.has_mate.resize(name as usize + 1, true);
         }
-        set_entry(&mut self.has_mate, name, false);
-        Ok(())
+        set_entry(&mut self.has_mate.items, name, false);
     }
 
     // A tree has a mate.
     pub(super) fn end(&mut self, tree: Option<u32>) {
         if let Some(tree) = tree {
-            set_entry(&mut self.has_mate, tree, true);
+            set_entry(&mut self.has_mate.items, tree, true);
         }
     }
 
     // Whether a tree has no mate yet.
     pub(super) fn is_left(&self, tree: u32) -> bool {
-        entry(&self.has_mate, tree) == Some(false)
+        entry(&self.has_mate.items, tree) == Some(false)
     }
 }
 
@@ -95,8 +98,8 @@ fn next_age(age: i64, count: usize) -> i64 {
 
 impl<'a, L: Limit> Engine<'a, L> {
     // Grows all trees batch by batch. False if some tree is left when the work allowed is done.
-    pub(super) fn run_slices(&mut self) -> Result<bool, NoMemory> {
-        self.plant_all()?;
+    pub(super) fn run_slices(&mut self) -> bool {
+        self.plant_all();
         self.start_ahead();
         let mut from = 0i64;
         let mut until = first_age(self.arcs);
@@ -104,11 +107,11 @@ impl<'a, L: Limit> Engine<'a, L> {
         let first = batch_of(terminals, nodes);
         let is_sparse = terminals.saturating_mul(SPARSE) <= nodes;
         for _ in 0..SLICES {
-            let count = count_at(first, self.batches.waiting.len(), is_sparse);
-            if self.batches.waiting.len() <= count || self.work.left() == 0 {
+            let count = count_at(first, self.batches.waiting.items.len(), is_sparse);
+            if self.batches.waiting.items.len() <= count || self.work.left() == 0 {
                 break;
             }
-            self.run_slice(from, until, count)?;
+            self.run_slice(from, until, count);
             from = until;
             until = next_age(until, count);
         }
@@ -117,28 +120,27 @@ impl<'a, L: Limit> Engine<'a, L> {
     }
 
     // Each terminal takes its node and is a tree that waits, unless the node is an open hub.
-    fn plant_all(&mut self) -> Result<(), NoMemory> {
+    fn plant_all(&mut self) {
         for node in self.terminals {
             if self.is_open_hub(*node) {
-                self.plant_at_hub(*node)?;
+                self.plant_at_hub(*node);
             } else {
-                self.plant_to_wait(*node)?;
+                self.plant_to_wait(*node);
             }
         }
-        Ok(())
     }
 
     // The next terminal takes its node, and is a tree that waits.
-    fn plant_to_wait(&mut self, node: u32) -> Result<(), NoMemory> {
-        let name = self.forest.reserve()?;
-        self.cover.open(name)?;
+    fn plant_to_wait(&mut self, node: u32) {
+        let name = self.forest.reserve();
+        self.cover.open(name);
         self.take(name, node, name);
         self.unpaired = self.unpaired.saturating_add(1);
         self.wait(name)
     }
 
     // A tree whose regions are all free waits, its root at rest.
-    fn wait(&mut self, tree: u32) -> Result<(), NoMemory> {
+    fn wait(&mut self, tree: u32) {
         self.forest.stand(self.forest.top(tree), tree);
         self.rests = self.rests.saturating_add(1);
         self.batches.add(tree)
@@ -147,22 +149,21 @@ impl<'a, L: Limit> Engine<'a, L> {
     // The trees that wait, which are on no list any more.
     fn take_waiting(&mut self) -> Vec<u32> {
         let mut names = Vec::new(self.alloc);
-        swap(&mut names, &mut self.batches.waiting);
+        swap(&mut names, &mut self.batches.waiting.items);
         names
     }
 
     // Grows the trees that wait from one age to another, so many at one time.
-    fn run_slice(&mut self, from: i64, until: i64, count: usize) -> Result<(), NoMemory> {
+    fn run_slice(&mut self, from: i64, until: i64, count: usize) {
         let names = self.take_waiting();
         for batch in names.chunks(count.max(1)) {
-            self.run_batch(batch, from, until)?;
-            self.halt_batch(batch, until)?;
+            self.run_batch(batch, from, until);
+            self.halt_batch(batch, until);
         }
-        Ok(())
     }
 
     // Grows those of these trees that are left from one age to another. Whether none of them is left then.
-    fn run_batch(&mut self, names: &[u32], from: i64, until: i64) -> Result<bool, NoMemory> {
+    fn run_batch(&mut self, names: &[u32], from: i64, until: i64) -> bool {
         self.clock.set(from, until);
         for name in names {
             if self.batches.is_left(*name) {
@@ -173,22 +174,21 @@ impl<'a, L: Limit> Engine<'a, L> {
         for name in names {
             if self.batches.is_left(*name) {
                 let root = self.forest.top(*name);
-                self.wake_region(root, root)?;
+                self.wake_region(root, root);
             }
         }
         self.go_on_until(until)
     }
 
     // Stops those of these trees that are left: their regions are free, and they wait, their roots at rest.
-    fn halt_batch(&mut self, names: &[u32], now: i64) -> Result<(), NoMemory> {
+    fn halt_batch(&mut self, names: &[u32], now: i64) {
         self.clock.set(now, now);
         for name in names {
             if self.batches.is_left(*name) {
-                self.free_members(*name)?;
-                self.inner.clear();
-                self.wait(*name)?;
+                self.free_members(*name);
+                self.inner.items.clear();
+                self.wait(*name);
             }
         }
-        Ok(())
     }
 }

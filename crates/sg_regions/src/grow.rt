@@ -160,7 +160,7 @@ fn run<L: Limit>(
     ensures blossoms { IfOk result (λ g. g.growth.blossoms ≤ L.blossoms) }
     ensures events { IfOk result (λ g. g.growth.events ≤ L.events) }
 {
-    let lists = layout.take_lists(alloc, terminals.len())?;
+    let lists = layout.take_lists(alloc, terminals.len());
     let ran = run_over::<L>(alloc, layout, lists, terminals, method, allowed)?;
     layout.keep(ran.lists);
     Ok(ran.grown)
@@ -217,7 +217,7 @@ fn run_to_end<L: Limit>(engine: &mut Engine<L>, keeps: bool) -> Result<Option<Fi
     }
     let pairs = engine.pairs()?;
     if !keeps {
-        engine.end()?;
+        engine.end();
     }
     let nest = engine.nest()?;
     Ok(Some(Finished { nest, pairs }))

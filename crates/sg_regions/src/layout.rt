@@ -72,9 +72,9 @@ impl Layout {
     }
 
     // The lists of the last run, or new ones with room for so many regions.
-    pub fn take_lists(&mut self, alloc: Global, room: usize) -> Result<Lists, NoMemory> {
+    pub fn take_lists(&mut self, alloc: Global, room: usize) -> Lists {
         match self.lists.take() {
-            Some(lists) => Ok(lists),
+            Some(lists) => lists,
             None => Lists::new(alloc, &self.arcs, room),
         }
     }
@@ -93,7 +93,7 @@ impl Layout {
     ) -> Result<Option<EdgeList>, NoMemory> {
         let mut joining = match self.joining.take() {
             Some(joining) => joining,
-            None => Joining::new(alloc, self.arcs.nodes(), self.arcs.darts() / 2)?,
+            None => Joining::new(alloc, self.arcs.nodes(), self.arcs.darts() / 2),
         };
         let edges = joining.join_of(alloc, &self.arcs, nest, pairs)?;
         if self.keeps {

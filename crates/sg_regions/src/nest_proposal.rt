@@ -11,7 +11,7 @@ use super::{Grown, Growth, NoMemory};
 use sg_graph::{EdgeList, Terminals, Web};
 use sg_growth::{Nest, Taken};
 use sg_nest::{Place, Places, Region, Regions};
-use sg_slots::{entry, number, set_entry};
+use sg_slots::{Store, entry, number, set_entry};
 use std::alloc::Global;
 
 /// Edges that may be a minimum T-join, and a nest of regions that may prove it.
@@ -134,20 +134,23 @@ fn doubled(radius: i64) -> u64 {
 
 // The finished regions in their order.
 fn handed(alloc: Global, nest: &Nest) -> Result<sg_nest::Nest, NoMemory> {
-    let names = names_of(alloc, nest)?;
+    let names = names_of(alloc, nest);
+    let mut regions = regions_of(alloc, nest, &names.items);
+    regions.note(&names);
+    let places = places_of(alloc, nest, &names.items);
     Ok(sg_nest::Nest {
-        regions: regions_of(alloc, nest, &names)?,
-        places: places_of(alloc, nest, &names)?,
+        regions: Regions::from_vec(regions.finish()?),
+        places: Places::from_vec(places.finish()?),
     })
 }
 
 // For each region its number in the order.
-fn names_of(alloc: Global, nest: &Nest) -> Result<Vec<u32>, NoMemory> {
-    let mut names = vec![in alloc; 0u32; nest.regions() as usize]?;
+fn names_of(alloc: Global, nest: &Nest) -> Store<u32> {
+    let mut names = Store::filled(alloc, 0u32, nest.regions() as usize);
     for (place, region) in nest.order().iter().enumerate() {
-        set_entry(&mut names, *region, number(place));
+        set_entry(&mut names.items, *region, number(place));
     }
-    Ok(names)
+    names
 }
 
 // The number of a region, if there is one.
@@ -156,24 +159,24 @@ fn name_in(names: &[u32], region: Option<u32>) -> Option<u32> {
 }
 
 // The regions, parts before what they are parts of.
-fn regions_of(alloc: Global, nest: &Nest, names: &[u32]) -> Result<Regions, NoMemory> {
-    let mut regions = Vec::with_capacity(alloc, nest.order().len())?;
+fn regions_of(alloc: Global, nest: &Nest, names: &[u32]) -> Store<Region> {
+    let mut regions = Store::with_room(alloc, nest.order().len());
     for region in nest.order() {
         regions.push(Region {
             parent: name_in(names, nest.parent(*region)),
             radius: doubled(nest.radius(*region)),
-        })?;
+        });
     }
-    Ok(Regions::from_vec(regions))
+    regions
 }
 
 // Which region took each node, and at which radius.
-fn places_of(alloc: Global, nest: &Nest, names: &[u32]) -> Result<Places, NoMemory> {
-    let mut places = Vec::with_capacity(alloc, nest.nodes() as usize)?;
+fn places_of(alloc: Global, nest: &Nest, names: &[u32]) -> Store<Option<Place>> {
+    let mut places = Store::with_room(alloc, nest.nodes() as usize);
     for taken in nest.taken() {
-        places.push(place_of(names, taken))?;
+        places.push(place_of(names, taken));
     }
-    Ok(Places::from_vec(places))
+    places
 }
 
 // Which region took a node, and at which radius.

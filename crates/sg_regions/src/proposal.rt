@@ -10,7 +10,7 @@ use sg_graph::{Terminals, Web};
 use sg_growth::{Adjacency, Edge};
 use sg_join_check::Proposal;
 use sg_region_ways::{chains_of, join_of};
-use std::alloc::Global;
+use std::alloc::{AllocError, Global};
 
 /// Proposes a minimum T-join of the terminals with odd cuts that prove it, or nothing.
 ///
@@ -95,7 +95,10 @@ fn proposal(
     let Some(edges) = join_of(alloc, arcs, &nest, pairs.as_slice(), count)? else {
         return Ok(None);
     };
-    nest.weigh(alloc)?;
+    nest.weigh(alloc);
+    if nest.is_short() {
+        return Err(AllocError);
+    }
     let chains = chains_of(alloc, arcs, &nest, count)?;
     Ok(Some(Proposal {
         edges,

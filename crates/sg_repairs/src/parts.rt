@@ -1,9 +1,15 @@
 // The finished regions to which an engine is put back, and runs from some of the terminals.
+use super::apart::{Ending, is_gone};
 use super::{Engine, NoMemory};
 use sg_forest::Forest;
 use sg_growth::{Adjacency, Cover};
 use sg_region_engine::Exit;
+use sg_slots::number;
 use sg_work::{Allowance, Unlimited, Work};
+use std::alloc::AllocError;
+
+// How many terminals an edge may add to those of the graph.
+pub const SPARE: usize = 2;
 
 // Finished regions, none of them in a tree.
 pub struct Base {
@@ -24,18 +30,19 @@ impl Drop for Base {
 impl Base {
     // A copy of the finished regions.
     pub fn of(engine: &Engine) -> Result<Base, NoMemory> {
-        let mut base = Base {
-            cover: Cover::new(engine.alloc(), 0, 0)?,
-            forest: Forest::new(engine.alloc(), 0, 0, 0)?,
-        };
-        base.cover.restore(engine.cover())?;
-        base.forest.restore(engine.forest())?;
-        Ok(base)
+        let mut forest = Forest::new(engine.alloc(), 0, 0, 0)?;
+        let mut cover = Cover::new(engine.alloc(), 0, 0);
+        forest.restore(engine.forest());
+        cover.restore(engine.cover());
+        if forest.is_short() || cover.is_short() {
+            return Err(AllocError);
+        }
+        Ok(Base { cover, forest })
     }
 
     // Puts the finished regions back, at time 0.
-    pub fn put_back(&self, engine: &mut Engine) -> Result<(), NoMemory> {
-        engine.put_back(&self.cover, &self.forest)
+    pub fn put_back(&self, engine: &mut Engine) {
+        engine.put_back(&self.cover, &self.forest);
     }
 
     // Whether a region is the same as in the base, with all its parts.
@@ -56,27 +63,48 @@ pub fn places_of(arcs: &Adjacency) -> u64 {
     (arcs.nodes() as u64).saturating_add(arcs.darts() as u64)
 }
 
-// Plants each terminal that is marked. The names of the others are kept.
-fn plant(engine: &mut Engine, is_planted: &[bool]) -> Result<(), NoMemory> {
-    let terminals = engine.terminals();
-    for (node, is_planted) in terminals.iter().zip(is_planted) {
-        if *is_planted {
-            engine.plant(*node)?;
-        } else {
-            engine.reserve()?;
-        }
-    }
-    Ok(())
+// The first of the terminals that an edge may add.
+pub fn first_spare(terminals: &[u32]) -> u32 {
+    number(terminals.len().saturating_sub(SPARE))
 }
 
-// Runs from the terminals that are marked. False if not each of them has a mate in the end.
-pub fn run_from(engine: &mut Engine, is_planted: &[bool]) -> Result<bool, NoMemory> {
-    plant(engine, is_planted)?;
+// Whether a terminal is there when the ends of an edge are these, of which the spare ones begin with this.
+fn is_there(name: u32, spare: u32, ends: [Ending; 2]) -> bool {
+    if name < spare {
+        return !is_gone(name, ends);
+    }
+    let [one, other] = ends;
+    one.new == Some(name) || other.new == Some(name)
+}
+
+// Plants each terminal that is there. The names of the others are kept.
+fn plant(engine: &mut Engine, ends: [Ending; 2]) {
     let terminals = engine.terminals();
-    for (node, is_planted) in terminals.iter().zip(is_planted) {
-        if *is_planted {
-            engine.wake(*node)?;
+    let spare = first_spare(terminals);
+    for (name, node) in terminals.iter().enumerate() {
+        if is_there(number(name), spare, ends) {
+            engine.plant(*node);
+        } else {
+            engine.reserve();
         }
     }
+}
+
+// Wakes the nodes of these terminals.
+fn wake(engine: &mut Engine, ends: [Ending; 2]) {
+    let terminals = engine.terminals();
+    let spare = first_spare(terminals);
+    for (name, node) in terminals.iter().enumerate() {
+        if is_there(number(name), spare, ends) {
+            engine.wake(*node);
+        }
+    }
+}
+
+// Runs from the terminals that are there when the ends of an edge are these. False if not each of them has a mate in
+// the end.
+pub fn run_from(engine: &mut Engine, ends: [Ending; 2]) -> Result<bool, NoMemory> {
+    plant(engine, ends);
+    wake(engine, ends);
     engine.run_by_method(2)
 }

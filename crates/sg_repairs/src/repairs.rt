@@ -2,18 +2,15 @@ use super::apart::{Ending, repair};
 use super::changes::Changes;
 use super::old_ways::OldWays;
 use super::order::changed_pairs;
-use super::parts::{Base, places_of, run_from};
+use super::parts::{Base, SPARE, first_spare, places_of, run_from};
 use super::{Engine, NoMemory, Parts};
 use sg_graph::{EdgeList, Terminals, Web};
 use sg_growth::{Adjacency, first_dart, second_dart};
 use sg_nest::Nest;
 use sg_region_engine::Method;
 use sg_regions::arcs_of;
-use sg_slots::{Slot, entry, number, set_entry};
-use std::alloc::Global;
-
-// How many terminals an edge may add to those of the graph.
-const SPARE: usize = 2;
+use sg_slots::{Slot, Store, entry, number, set_entry};
+use std::alloc::{AllocError, Global};
 
 // The ends of no edge.
 const NO_END: [Ending; 2] = [
@@ -59,7 +56,6 @@ pub struct Repairs {
 
 // Regions that grew until each terminal had a mate: as they are put back, with the ways between mates,
 // and in their order.
-#[derive(Drop)]
 struct Finished {
     base: Base,
     ways: OldWays,
@@ -82,6 +78,17 @@ impl Drop for Repairs {
     }
 }
 
+// Explicit for the same reason as that of `Repairs`.
+impl Drop for Finished {
+    fn drop(self) {
+        let Finished {
+            base: _base,
+            ways: _ways,
+            nest: _nest,
+        } = self;
+    }
+}
+
 // An edge that is taken out, with its two ends as they are then.
 #[derive(Clone, Copy)]
 pub struct Query {
@@ -100,16 +107,19 @@ impl Repairs {
         terminals: &Terminals,
     ) -> Result<Option<Repairs>, NoMemory> {
         let arcs = arcs_of(alloc, web, 4)?;
-        let at = terminals_at(alloc, web.nodes(), terminals.as_slice())?;
-        let terminals = with_spares(alloc, terminals.as_slice())?;
-        let Some(grown) = grow_all(alloc, &arcs, &terminals, web.edges().len())? else {
+        let at = terminals_at(alloc, web.nodes(), terminals.as_slice());
+        let terminals = with_spares(alloc, terminals.as_slice());
+        if at.is_short() || terminals.is_short() {
+            return Err(AllocError);
+        }
+        let Some(grown) = grow_all(alloc, &arcs, &terminals.items, web.edges().len())? else {
             return Ok(None);
         };
         Ok(Some(Repairs {
             alloc,
             arcs,
-            terminals,
-            at,
+            terminals: terminals.items,
+            at: at.items,
             finished: grown.finished,
             parts: Some(grown.parts),
             changes: grown.changes,
@@ -131,8 +141,9 @@ impl Repairs {
     /// of the two T-joins. Nothing where no repair was found, and for an edge of one node. The only
     /// error is running out of memory.
     ///
-    /// Any call gives the same for the same edge. Cost: time linear in the graph, and that of growing
-    /// the two to six regions that are left over where those at the edge are taken apart.
+    /// Any call gives the same for the same edge; where one ran out of memory, later ones may do so too.
+    /// Cost: time linear in the graph, and that of growing the two to six regions that are left over where
+    /// those at the edge are taken apart.
     pub fn turn(&mut self, edge: u32) -> Result<Option<Turn>, NoMemory> {
         let one = self.arcs.start(first_dart(edge));
         let other = self.arcs.start(second_dart(edge));
@@ -165,7 +176,7 @@ impl Repairs {
     // The ends of an edge that is taken out.
     fn query(&mut self, edge: u32, one: u32, other: u32) -> Query {
         let is_in_join = self.finished.ways.has(edge);
-        let spare = number(self.terminals.len().saturating_sub(SPARE));
+        let spare = first_spare(&self.terminals);
         let first = self.ending(one, is_in_join, spare);
         let second = self.ending(other, is_in_join, spare.wrapping_add(1));
         Query {
@@ -212,12 +223,12 @@ struct Grown {
 }
 
 // The nodes of the terminals, with room for those that an edge may add.
-fn with_spares(alloc: Global, nodes: &[u32]) -> Result<Vec<u32>, NoMemory> {
-    let mut terminals = Vec::from_slice(alloc, nodes)?;
-    for _ in 0..SPARE {
-        terminals.push(u32::MAX)?;
-    }
-    Ok(terminals)
+fn with_spares(alloc: Global, nodes: &[u32]) -> Store<u32> {
+    let count = nodes.len().saturating_add(SPARE);
+    let mut terminals = Store::with_room(alloc, count);
+    terminals.extend(nodes);
+    terminals.resize(count, u32::MAX);
+    terminals
 }
 
 // Grows regions from the terminals, but for the spare ones, over so many edges.
@@ -275,46 +286,35 @@ struct Found {
 
 // Runs an engine over so many edges, and reads off what is kept.
 fn found_by(alloc: Global, engine: &mut Engine, edges: usize) -> Result<Option<Found>, NoMemory> {
-    if !run_between(engine, NO_END)? {
+    if !run_from(engine, NO_END)? {
         return Ok(None);
     }
-    let mut changes = Changes::new(alloc, engine, edges, engine.terminals().len())?;
-    let Some(finished) = kept(alloc, engine, &mut changes, edges)? else {
-        return Ok(None);
-    };
-    Ok(Some(Found { finished, changes }))
+    let mut changes = Changes::new(alloc, engine, edges, engine.terminals().len());
+    let finished = kept(alloc, engine, &mut changes, edges)?;
+    if changes.is_short() {
+        return Err(AllocError);
+    }
+    match finished {
+        Some(finished) => Ok(Some(Found { finished, changes })),
+        None => Ok(None),
+    }
 }
 
-// Runs from the terminals that are there when the ends of an edge are these.
-fn run_between(engine: &mut Engine, ends: [Ending; 2]) -> Result<bool, NoMemory> {
-    let is_planted = planted(engine.alloc(), engine.terminals().len(), ends)?;
-    run_from(engine, &is_planted)
-}
-
-// What is kept of an engine that ran to its end; nothing where a way is not found.
+// What is kept of an engine that ran to its end; nothing where a way is not found. Where `changes` is short then,
+// something is missing.
 fn kept(
     alloc: Global,
     engine: &Engine,
     changes: &mut Changes,
     edges: usize,
 ) -> Result<Option<Finished>, NoMemory> {
-    let Some(ways) = ways_of(alloc, engine, changes, edges)? else {
+    let pairs = engine.pairs()?;
+    let Some(ways) = OldWays::new(alloc, engine, changes, &pairs, edges) else {
         return Ok(None);
     };
-    let nest = changes.nest(engine)?;
+    let nest = changes.nest(engine);
     let base = Base::of(engine)?;
     Ok(Some(Finished { base, ways, nest }))
-}
-
-// The ways between the mates of an engine that ran to its end.
-fn ways_of(
-    alloc: Global,
-    engine: &Engine,
-    changes: &mut Changes,
-    edges: usize,
-) -> Result<Option<OldWays>, NoMemory> {
-    let pairs = engine.pairs()?;
-    OldWays::new(alloc, engine, changes, &pairs, edges)
 }
 
 // The repair for one edge.
@@ -324,7 +324,7 @@ fn repaired(
     changes: &mut Changes,
     query: Query,
 ) -> Result<Option<Turn>, NoMemory> {
-    finished.base.put_back(engine)?;
+    finished.base.put_back(engine);
     if !repair(engine, query.ends)? {
         return Ok(None);
     }
@@ -339,40 +339,23 @@ fn grown_anew(
     changes: &mut Changes,
     query: Query,
 ) -> Result<Option<Turn>, NoMemory> {
-    if !run_between(engine, query.ends)? {
+    if !run_from(engine, query.ends)? {
         return Ok(None);
     }
     let pairs = engine.pairs()?;
     changes.turn(engine, &finished.ways, &pairs, query)
 }
 
-// The marks of the terminals that are there when the ends of an edge are these.
-fn planted(alloc: Global, count: usize, ends: [Ending; 2]) -> Result<Vec<bool>, NoMemory> {
-    let mut marks = vec![in alloc; true; count]?;
-    for place in count.saturating_sub(SPARE)..count {
-        set_entry(&mut marks, number(place), false);
-    }
-    for end in ends {
-        if let Some(gone) = end.gone {
-            set_entry(&mut marks, gone, false);
-        }
-        if let Some(new) = end.new {
-            set_entry(&mut marks, new, true);
-        }
-    }
-    Ok(marks)
-}
-
 // The terminal of a node.
 fn terminal_at(at: &[Slot], node: u32) -> Option<u32> {
-    entry(at, node)?.number()
+    entry(at, node).unwrap_or(Slot::none()).number()
 }
 
 // For each node its terminal.
-fn terminals_at(alloc: Global, nodes: u32, terminals: &[u32]) -> Result<Vec<Slot>, NoMemory> {
-    let mut at = vec![in alloc; Slot::none(); nodes as usize]?;
+fn terminals_at(alloc: Global, nodes: u32, terminals: &[u32]) -> Store<Slot> {
+    let mut at = Store::filled(alloc, Slot::none(), nodes as usize);
     for (name, node) in terminals.iter().enumerate() {
-        set_entry(&mut at, *node, Slot::of(number(name)));
+        set_entry(&mut at.items, *node, Slot::of(number(name)));
     }
-    Ok(at)
+    at
 }
