@@ -8,7 +8,8 @@
 //!
 //! For the next engineer: no clause speaks of a proposal. Callers compare its energy with the least. Each function
 //! only has to be safe and to return: entries beyond the end of a list are ignored, each loop has a bound known at
-//! its entry, and sums wrap. `sheet` has the instance as plain lists, `room` the bonds that are left out, `chains`
+//! its entry, and sums wrap. What there is no memory for is left out of a list, and before a proposal is given all
+//! lists are asked. `sheet` has the instance as plain lists, `room` the bonds that are left out, `chains`
 //! joins edges in series, `reduced` has the dual of what is left, `blocks` the flips at random, `window` the ground
 //! state of a window, `spots` which windows are asked, and `explorer` all together.
 #![tactic(auto)]

@@ -4,21 +4,21 @@ use super::lists::entry_or;
 use super::sheet::{Sheet, first_dart, second_dart};
 use sg_model::Instance;
 use sg_nest::{Nest, Place, Region};
-use sg_slots::{entry, number, set_entry};
+use sg_slots::{Store, entry, number, set_entry};
 use sg_walk::names;
 use std::alloc::Global;
 
 // The radii of each region and of all that it is a part of.
-fn heights_of(alloc: Global, regions: &[Region]) -> Result<Vec<u64>, NoMemory> {
-    let mut heights = vec![in alloc; 0u64; regions.len()]?;
+fn heights_of(alloc: Global, regions: &[Region]) -> Store<u64> {
+    let mut heights = Store::filled(alloc, 0u64, regions.len());
     for back in 0..regions.len() {
         let place = number(regions.len().saturating_sub(back).saturating_sub(1));
         if let Some(region) = entry(regions, place) {
-            let over = height_over(&heights, region.parent);
-            set_entry(&mut heights, place, over.wrapping_add(region.radius));
+            let over = height_over(&heights.items, region.parent);
+            set_entry(&mut heights.items, place, over.wrapping_add(region.radius));
         }
     }
-    Ok(heights)
+    heights
 }
 
 // The height of a region, if there is one.
@@ -46,7 +46,9 @@ fn common(regions: &[Region], one: u32, other: u32) -> Option<u32> {
         if low == high {
             return Some(low);
         }
-        let up = parent_of(regions, low)?;
+        let Some(up) = parent_of(regions, low) else {
+            return None;
+        };
         low = up.min(high);
         high = up.max(high);
     }
@@ -85,7 +87,7 @@ fn lack(place: Place, region: u32) -> u64 {
 
 // The place of a node.
 fn place_at(places: &[Option<Place>], node: u32) -> Option<Place> {
-    entry(places, node)?
+    entry_or(places, node, None)
 }
 
 /// For each spin the least spin of those that it is joined to by bonds that nothing breaks and at which the nest leaves
@@ -94,21 +96,29 @@ pub fn names_by_room(
     alloc: Global,
     inst: &Instance,
     sheet: &Sheet,
-    broken: &[bool],
+    broken: &Store<bool>,
     nest: &Nest,
 ) -> Result<Vec<u32>, NoMemory> {
-    let heights = heights_of(alloc, nest.regions.as_slice())?;
-    let mut set = Vec::new(alloc);
-    for bond in 0..number(sheet.bonds()) {
-        let size = sheet.coupling(bond).unsigned_abs();
-        let is_broken = entry_or(broken, bond, true);
-        let load = load_of(sheet, nest, &heights, bond);
-        set.push(!is_broken && load < size.wrapping_mul(4))?;
-    }
+    let set = bonds_with_room(alloc, sheet, broken, nest).finish()?;
     if set.len() != inst.bonds().len() {
         return Ok(Vec::new(alloc));
     }
     names(alloc, inst, &set)
+}
+
+// For each bond whether nothing breaks it and the nest leaves room at it.
+fn bonds_with_room(alloc: Global, sheet: &Sheet, broken: &Store<bool>, nest: &Nest) -> Store<bool> {
+    let heights = heights_of(alloc, nest.regions.as_slice());
+    let mut set = Store::new(alloc);
+    set.note(broken);
+    set.note(&heights);
+    for bond in 0..number(sheet.bonds()) {
+        let size = sheet.coupling(bond).unsigned_abs();
+        let is_broken = entry_or(&broken.items, bond, true);
+        let load = load_of(sheet, nest, &heights.items, bond);
+        set.push(!is_broken && load < size.wrapping_mul(4));
+    }
+    set
 }
 
 // How much of a bond the nest takes.
@@ -122,12 +132,12 @@ fn load_of(sheet: &Sheet, nest: &Nest, heights: &[u64], bond: u32) -> u64 {
 }
 
 /// For each bond whether its ends have the same name.
-pub fn joined(alloc: Global, sheet: &Sheet, names: &[u32]) -> Result<Vec<bool>, NoMemory> {
-    let mut joined = Vec::with_capacity(alloc, sheet.bonds())?;
+pub fn joined(alloc: Global, sheet: &Sheet, names: &[u32]) -> Store<bool> {
+    let mut joined = Store::with_room(alloc, sheet.bonds());
     for bond in 0..number(sheet.bonds()) {
         let one = entry(names, sheet.end(first_dart(bond)));
         let other = entry(names, sheet.end(second_dart(bond)));
-        joined.push(one == other)?;
+        joined.push(one == other);
     }
-    Ok(joined)
+    joined
 }

@@ -8,44 +8,49 @@ use sg_graph::EdgeList;
 use sg_growth::{Adjacency, Edge};
 use sg_region_engine::{Engine, Method};
 use sg_region_ways::join_of;
-use sg_slots::{Slot, number, set_entry};
+use sg_slots::{Slot, Store, number, set_entry};
 use sg_work::{Allowance, Unlimited};
 use std::alloc::Global;
 
 // Numbers for the nodes of a window.
 #[derive(Drop)]
 pub struct NodeNames {
-    names: Vec<Slot>,
-    nodes: Vec<u32>,
+    names: Store<Slot>,
+    nodes: Store<u32>,
 }
 
 impl NodeNames {
     /// No node has a number.
-    pub fn new(alloc: Global, nodes: usize) -> Result<NodeNames, NoMemory> {
-        Ok(NodeNames {
-            names: vec![in alloc; Slot::none(); nodes]?,
-            nodes: Vec::new(alloc),
-        })
+    pub fn new(alloc: Global, nodes: usize) -> NodeNames {
+        NodeNames {
+            names: Store::filled(alloc, Slot::none(), nodes),
+            nodes: Store::new(alloc),
+        }
+    }
+
+    /// Whether a list found no memory.
+    pub fn is_short(&self) -> bool {
+        self.names.is_short() || self.nodes.is_short()
     }
 
     // The number of a node, a new one if it has none.
-    fn of(&mut self, node: u32) -> Result<u32, NoMemory> {
-        let known = entry_or(&self.names, node, Slot::none());
+    fn of(&mut self, node: u32) -> u32 {
+        let known = entry_or(&self.names.items, node, Slot::none());
         if let Some(name) = known.number() {
-            return Ok(name);
+            return name;
         }
-        let name = number(self.nodes.len());
-        set_entry(&mut self.names, node, Slot::of(name));
-        self.nodes.push(node)?;
-        Ok(name)
+        let name = number(self.nodes.items.len());
+        set_entry(&mut self.names.items, node, Slot::of(name));
+        self.nodes.push(node);
+        name
     }
 
     // Takes all numbers back.
     fn clear(&mut self) {
-        for node in &self.nodes {
-            set_entry(&mut self.names, *node, Slot::none());
+        for node in &self.nodes.items {
+            set_entry(&mut self.names.items, *node, Slot::none());
         }
-        self.nodes.clear();
+        self.nodes.items.clear();
     }
 }
 
@@ -70,36 +75,38 @@ fn weakened(turning: Turning, scale: i64) -> Weight {
 #[derive(Drop)]
 pub struct Window {
     // Chains of the whole, and what is in series among them.
-    list: Vec<u32>,
+    list: Store<u32>,
     chains: Chains,
 }
 
 impl Window {
     /// The window of these chains of the whole.
-    pub fn new(
-        alloc: Global,
-        whole: &Reduced,
-        names: &mut NodeNames,
-        list: &[u32],
-    ) -> Result<Window, NoMemory> {
-        let mut sides = Vec::with_capacity(alloc, list.len().saturating_mul(2))?;
+    pub fn new(alloc: Global, whole: &Reduced, names: &mut NodeNames, list: &[u32]) -> Window {
+        let mut sides = Store::with_room(alloc, list.len().saturating_mul(2));
         for chain in list {
-            sides.push(names.of(whole.side(first_dart(*chain)))?)?;
-            sides.push(names.of(whole.side(second_dart(*chain)))?)?;
+            sides.push(names.of(whole.side(first_dart(*chain))));
+            sides.push(names.of(whole.side(second_dart(*chain))));
         }
-        let nodes = names.nodes.len();
+        let nodes = names.nodes.items.len();
         names.clear();
-        Ok(Window {
-            list: Vec::from_slice(alloc, list)?,
-            chains: Chains::new(alloc, nodes, &sides)?,
-        })
+        let mut window = Window {
+            list: Store::new(alloc),
+            chains: Chains::new(alloc, nodes, &sides),
+        };
+        window.list.extend(list);
+        window
+    }
+
+    /// Whether a list found no memory.
+    pub fn is_short(&self) -> bool {
+        self.list.is_short() || self.chains.is_short()
     }
 
     // What it costs to turn an edge of the window.
     fn turning(&self, whole: &Reduced, edge: u32) -> Turning {
         let mut all = Turning::none();
         for place in self.chains.at(edge) {
-            let chain = entry_or(&self.list, *place, 0);
+            let chain = entry_or(&self.list.items, *place, 0);
             all = all.and(whole.turning(chain));
         }
         all
@@ -107,51 +114,52 @@ impl Window {
 
     /// The chains that turn if the open bonds are weakened: none if that costs something, or if no open bond turns.
     pub fn turned(&self, alloc: Global, whole: &Reduced, scale: i64) -> Result<Vec<u32>, NoMemory> {
-        let mut turnings = Vec::with_capacity(alloc, self.chains.len())?;
-        for edge in 0..number(self.chains.len()) {
-            turnings.push(self.turning(whole, edge))?;
+        let turnings = self.turnings(alloc, whole);
+        let turns = self.turns(alloc, &turnings, scale)?;
+        let mut list = Store::new(alloc);
+        list.note(&turns);
+        if is_free(&turnings.items, &turns.items) {
+            self.add_all(&turns.items, &mut list);
         }
-        let Some(turns) = self.turns(alloc, &turnings, scale)? else {
-            return Ok(Vec::new(alloc));
-        };
-        if !is_free(&turnings, &turns) {
-            return Ok(Vec::new(alloc));
-        }
-        self.chosen(alloc, &turns)
+        list.finish()
     }
 
-    // For each edge whether it turns.
+    // What it costs to turn each edge of the window.
+    fn turnings(&self, alloc: Global, whole: &Reduced) -> Store<Turning> {
+        let mut turnings = Store::with_room(alloc, self.chains.len());
+        for edge in 0..number(self.chains.len()) {
+            turnings.push(self.turning(whole, edge));
+        }
+        turnings
+    }
+
+    // For each edge whether it turns: of none where no join is proposed.
     fn turns(
         &self,
         alloc: Global,
-        turnings: &[Turning],
+        turnings: &Store<Turning>,
         scale: i64,
-    ) -> Result<Option<Vec<bool>>, NoMemory> {
-        let mut edges = Vec::with_capacity(alloc, turnings.len())?;
-        let mut turns = Vec::with_capacity(alloc, turnings.len())?;
-        for (place, turning) in turnings.iter().enumerate() {
+    ) -> Result<Store<bool>, NoMemory> {
+        let mut edges = Store::with_room(alloc, turnings.items.len());
+        let mut turns = Store::with_room(alloc, turnings.items.len());
+        for (place, turning) in turnings.items.iter().enumerate() {
             let edge = weakened(*turning, scale);
-            edges.push(self.edge(number(place), edge.weight))?;
-            turns.push(edge.has)?;
+            edges.push(self.edge(number(place), edge.weight));
+            turns.push(edge.has);
         }
-        let terminals = odd_nodes(
-            alloc,
-            self.chains.nodes as usize,
-            &self.chains.sides,
-            &turns,
-        )?;
-        let Some(join) = self.grown(alloc, edges, &terminals)? else {
-            return Ok(None);
-        };
-        for edge in join.as_slice() {
-            turn(&mut turns, *edge);
+        let terminals = self.odd_nodes(alloc, &turns.items);
+        turns.note(turnings);
+        turns.note(&terminals);
+        match self.grown(alloc, edges, &terminals.items)? {
+            Some(join) => turn_all(&mut turns.items, join.as_slice()),
+            None => turns.items.clear(),
         }
-        Ok(Some(turns))
+        Ok(turns)
     }
 
     // An edge of this weight, twice as long.
     fn edge(&self, place: u32, weight: i64) -> Edge {
-        let sides = &self.chains.sides;
+        let sides = &self.chains.sides.items;
         Edge {
             first: entry_or(sides, first_dart(place), 0),
             second: entry_or(sides, second_dart(place), 0),
@@ -163,30 +171,41 @@ impl Window {
     fn grown(
         &self,
         alloc: Global,
-        edges: Vec<Edge>,
+        edges: Store<Edge>,
         terminals: &[u32],
     ) -> Result<Option<EdgeList>, NoMemory> {
-        let arcs = Adjacency::new(alloc, self.chains.nodes, edges)?;
+        let arcs = Adjacency::new(alloc, self.chains.nodes, edges.finish()?)?;
         join_over(alloc, &arcs, terminals)
     }
 
-    // The chains of the whole in the edges that are marked.
-    fn chosen(&self, alloc: Global, marks: &[bool]) -> Result<Vec<u32>, NoMemory> {
-        let mut list = Vec::new(alloc);
-        for (edge, mark) in marks.iter().enumerate() {
-            if *mark {
-                self.add_chains(number(edge), &mut list)?;
+    // The nodes that edges meet oddly.
+    fn odd_nodes(&self, alloc: Global, has: &[bool]) -> Store<u32> {
+        let sides = &self.chains.sides.items;
+        let mut marks = Store::filled(alloc, false, self.chains.nodes as usize);
+        for (edge, has) in has.iter().enumerate() {
+            if *has {
+                let dart = first_dart(number(edge));
+                turn(&mut marks.items, entry_or(sides, dart, 0));
+                turn(&mut marks.items, entry_or(sides, dart.wrapping_add(1), 0));
             }
         }
-        Ok(list)
+        marked(alloc, &marks)
+    }
+
+    // Adds the chains of the whole in the edges that are marked.
+    fn add_all(&self, marks: &[bool], list: &mut Store<u32>) {
+        for (edge, mark) in marks.iter().enumerate() {
+            if *mark {
+                self.add_chains(number(edge), list);
+            }
+        }
     }
 
     // Adds the chains of the whole in an edge.
-    fn add_chains(&self, edge: u32, list: &mut Vec<u32>) -> Result<(), NoMemory> {
+    fn add_chains(&self, edge: u32, list: &mut Store<u32>) {
         for place in self.chains.at(edge) {
-            list.push(entry_or(&self.list, *place, 0))?;
+            list.push(entry_or(&self.list.items, *place, 0));
         }
-        Ok(())
     }
 }
 
@@ -211,8 +230,8 @@ fn join_by(
     if !engine.run()? {
         return Ok(None);
     }
-    let nest = engine.nest()?;
     let pairs = engine.pairs()?;
+    let nest = engine.nest()?;
     join_of(alloc, arcs, &nest, &pairs, arcs.edges())
 }
 
@@ -222,33 +241,23 @@ fn turn(marks: &mut [bool], place: u32) {
     set_entry(marks, place, !before);
 }
 
-// The nodes that edges meet oddly.
-fn odd_nodes(
-    alloc: Global,
-    nodes: usize,
-    sides: &[u32],
-    has: &[bool],
-) -> Result<Vec<u32>, NoMemory> {
-    let mut marks = vec![in alloc; false; nodes]?;
-    for (edge, has) in has.iter().enumerate() {
-        if *has {
-            let dart = first_dart(number(edge));
-            turn(&mut marks, entry_or(sides, dart, 0));
-            turn(&mut marks, entry_or(sides, dart.wrapping_add(1), 0));
-        }
+// Toggles the marks at these places.
+fn turn_all(marks: &mut [bool], places: &[u32]) {
+    for place in places {
+        turn(marks, *place);
     }
-    marked(alloc, &marks)
 }
 
 // The nodes that are marked.
-fn marked(alloc: Global, marks: &[bool]) -> Result<Vec<u32>, NoMemory> {
-    let mut list = Vec::new(alloc);
-    for (node, mark) in marks.iter().enumerate() {
+fn marked(alloc: Global, marks: &Store<bool>) -> Store<u32> {
+    let mut list = Store::new(alloc);
+    list.note(marks);
+    for (node, mark) in marks.items.iter().enumerate() {
         if *mark {
-            list.push(number(node))?;
+            list.push(number(node));
         }
     }
-    Ok(list)
+    list
 }
 
 // Whether it costs nothing to turn the edges that are marked, and a bond of them is open.
