@@ -86,21 +86,22 @@ fn assert_lattice(
     assert_instance(rt, alloc, &planar, wanted, "a lattice")
 }
 
-// So many lattices of each shape and law.
-fn assert_lattices(
-    rt: &impl Abort,
-    alloc: Global,
+// Drawn lattices: so many of each shape and law, and what is wanted of each.
+#[derive(Clone, Copy)]
+struct Lattices<'a> {
     seed: u64,
-    shapes: &[Shape],
+    shapes: &'a [Shape],
     rounds: u32,
-    laws: &[u32],
+    laws: &'a [u32],
     wanted: Wanted,
-) -> Result<(), Fault> {
-    let mut draws = Pcg32::new(seed, 54);
-    for shape in shapes {
-        for _ in 0..rounds {
-            for law in laws {
-                assert_lattice(rt, alloc, *shape, *law, &mut draws, wanted)?;
+}
+
+fn assert_lattices(rt: &impl Abort, alloc: Global, drawn: Lattices) -> Result<(), Fault> {
+    let mut draws = Pcg32::new(drawn.seed, 54);
+    for shape in drawn.shapes {
+        for _ in 0..drawn.rounds {
+            for law in drawn.laws {
+                assert_lattice(rt, alloc, *shape, *law, &mut draws, drawn.wanted)?;
             }
         }
     }
@@ -130,14 +131,26 @@ const ROUNDS: u32 = 4;
 
 #[test]
 fn drawn_lattices(rt: HostRuntime) -> Result<(), Fail> {
-    let wanted = Wanted::Proposals;
-    Ok(assert_lattices(&rt, rt.alloc(), 42, &SMALL, ROUNDS, &LAWS, wanted)?)
+    let drawn = Lattices {
+        seed: 42,
+        shapes: &SMALL,
+        rounds: ROUNDS,
+        laws: &LAWS,
+        wanted: Wanted::Proposals,
+    };
+    Ok(assert_lattices(&rt, rt.alloc(), drawn)?)
 }
 
 #[test]
 fn drawn_lattices_are_repaired(rt: HostRuntime) -> Result<(), Fail> {
-    let wanted = Wanted::Repairs { step: 1 };
-    Ok(assert_lattices(&rt, rt.alloc(), 47, &SMALL, ROUNDS, &LAWS, wanted)?)
+    let drawn = Lattices {
+        seed: 47,
+        shapes: &SMALL,
+        rounds: ROUNDS,
+        laws: &LAWS,
+        wanted: Wanted::Repairs { step: 1 },
+    };
+    Ok(assert_lattices(&rt, rt.alloc(), drawn)?)
 }
 
 // Lattices of some 120 to 260 bonds.
@@ -151,16 +164,28 @@ static LARGER: [Shape; 5] = [
 
 #[test]
 fn larger_lattices_are_repaired(rt: HostRuntime) -> Result<(), Fail> {
-    let wanted = Wanted::Repairs { step: 1 };
-    Ok(assert_lattices(&rt, rt.alloc(), 48, &LARGER, 1, &LAWS, wanted)?)
+    let drawn = Lattices {
+        seed: 48,
+        shapes: &LARGER,
+        rounds: 1,
+        laws: &LAWS,
+        wanted: Wanted::Repairs { step: 1 },
+    };
+    Ok(assert_lattices(&rt, rt.alloc(), drawn)?)
 }
 
 static LARGE: [Shape; 2] = [(Kind::Square, 32, 32), (Kind::Triangular, 24, 24)];
 
 #[test]
 fn large_lattices(rt: HostRuntime) -> Result<(), Fail> {
-    let wanted = Wanted::Proposals;
-    Ok(assert_lattices(&rt, rt.alloc(), 7, &LARGE, 1, &ENDS, wanted)?)
+    let drawn = Lattices {
+        seed: 7,
+        shapes: &LARGE,
+        rounds: 1,
+        laws: &ENDS,
+        wanted: Wanted::Proposals,
+    };
+    Ok(assert_lattices(&rt, rt.alloc(), drawn)?)
 }
 
 // Lattices of more than 129 faces or with a hub: some of their bonds.
@@ -168,8 +193,14 @@ static HUBS: [Shape; 2] = [(Kind::Square, 2, 90), (Kind::Square, 20, 20)];
 
 #[test]
 fn large_lattices_are_repaired(rt: HostRuntime) -> Result<(), Fail> {
-    let wanted = Wanted::Repairs { step: 16 };
-    Ok(assert_lattices(&rt, rt.alloc(), 52, &HUBS, 1, &ENDS, wanted)?)
+    let drawn = Lattices {
+        seed: 52,
+        shapes: &HUBS,
+        rounds: 1,
+        laws: &ENDS,
+        wanted: Wanted::Repairs { step: 16 },
+    };
+    Ok(assert_lattices(&rt, rt.alloc(), drawn)?)
 }
 
 // A cylinder whose two outer faces are hubs, with couplings of one size and -1 alone: then both are frustrated.
@@ -177,8 +208,14 @@ static LONG: [Shape; 1] = [(Kind::Cylinder, 3, 141)];
 
 #[test]
 fn long_cylinders(rt: HostRuntime) -> Result<(), Fail> {
-    let wanted = Wanted::Proposals;
-    Ok(assert_lattices(&rt, rt.alloc(), 8, &LONG, 1, &[0, 3], wanted)?)
+    let drawn = Lattices {
+        seed: 8,
+        shapes: &LONG,
+        rounds: 1,
+        laws: &[0, 3],
+        wanted: Wanted::Proposals,
+    };
+    Ok(assert_lattices(&rt, rt.alloc(), drawn)?)
 }
 
 fn assert_triangles(
