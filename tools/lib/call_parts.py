@@ -29,13 +29,13 @@ from stopwatch import LIBRARY
 # fit the longer decides.
 PARTS = {
     "reading numbers": ("ising2d_c", "sg_calls", "sg_lattice", "sg_model", "sg_draft", "sg_json", "sg_reader"),
-    "faces, genus, components": ("sg_faces", "sg_planar", "sg_walk"),
+    "faces, genus, components": ("sg_faces", "sg_planar"),
     "dual and frustrated faces": ("sg_dual", "sg_graph"),
-    "growing regions": ("sg_region_engine", "sg_regions", "sg_growth", "sg_forest", "sg_agenda", "sg_work", "sg_slots"),
+    "growing regions": ("sg_region_engine", "sg_regions", "sg_growth", "sg_forest", "sg_work", "sg_slots"),
     "ways between mates": ("sg_region_ways",),
     "handing the nest on": ("sg_regions::nest_proposal",),
     "judging it": ("sg_nest",),
-    "matching": ("sg_tjoin", "sg_dist", "sg_match", "sg_slack", "sg_arena", "sg_moat", "sg_pairing"),
+    "matching": ("sg_tjoin", "sg_dist", "sg_match", "sg_slack", "sg_arena", "sg_moat"),
     "spins and energy": ("sg_ground", "sg_planar::spins"),
 }
 OTHER, OUTSIDE = "lists and the rest", "memory (C library)"

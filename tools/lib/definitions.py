@@ -8,7 +8,7 @@ gate; it needs Python alone.
 
 The index of definitions has, for each public one, the first sentence of the comment above it, and the private ones by
 file; tools/lib/specs.py says which are public. What a crate is for comes from crates.txt, and the limits from
-crates/sg_limits/specs/Limits.antt.
+crates/sg_base/specs/Limits.antt.
 
 A line for each fault, and last `N passed, M failed`; the exit status is 0 if none failed.
 """
@@ -77,7 +77,7 @@ def value_of(text):
 def limits(known):
     """The limits: what each bounds, its number, and its definition."""
     for it in known.definitions.values():
-        if it.crate == "sg_limits" and it.name not in INNER:
+        if (it.crate, it.module) == ("sg_base", "Limits") and it.name not in INNER:
             yield it, value_of(it.text.rpartition("= ")[2].strip())
 
 

@@ -37,7 +37,7 @@ COMMANDS = "energy ground wall bonds clusters report ranges maxcut check tjoin p
 LIMIT = r"(?:2048|6144|2\^44|17592186044416|2\^29|536870912|2\^26|67108864|2\^22|4194304|12582912)"
 
 # Numbers of a page that stand in the sources: the page with a phrase of it, and the file with the text behind it.
-LIMITS = "crates/sg_limits/specs/Limits.antt"
+LIMITS = "crates/sg_base/specs/Limits.antt"
 NUMBERS = (
     ("README.md", "2048 spins", LIMITS, "spin_limit = 2048"),
     ("README.md", "6144 bonds", LIMITS, "bond_limit = 6144"),
@@ -215,7 +215,7 @@ def limits_in_prose(known):
     for page in read_pages():
         for number, line in prose(page):
             for found in unit.findall(line):
-                judge(found in allowed, f"{found} is no limit of crates/sg_limits", name_of(page), number)
+                judge(found in allowed, f"{found} is no limit of crates/sg_base", name_of(page), number)
 
 
 def names():

@@ -1,6 +1,6 @@
 // The costs of chosen bonds, by bounds that the caller keeps from call to call.
 ghost use Rattle.std.specs.Prelude.{◌≡◌, ◌≢◌, ◌⊎◌, ◌<◌, length};
-ghost use Rattle.sg_limits.specs.Limits.{bond_limit, spin_limit, table_limit};
+ghost use Rattle.sg_base.specs.Limits.{bond_limit, spin_limit, table_limit};
 ghost use Rattle.sg_draft.specs.Limits.{large_limits};
 ghost use Rattle.sg_bonds.specs.Bounds.{ForcedTablesExceed};
 ghost use Rattle.sg_calls.specs.BondCosts.{FindsCosts, IsBoundsFault, bound_lists};

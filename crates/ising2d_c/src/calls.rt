@@ -1,7 +1,7 @@
 // The calls on a general graph by numbers. Beside another status than 0 no result is written, and beside
 // another than 1 no line; but the line of a verdict on loops is written beside 0 and 3.
 ghost use Rattle.std.specs.Prelude.{◌≡◌, ◌≢◌, ◌⊎◌, ◌<◌, length};
-ghost use Rattle.sg_limits.specs.Limits.{bond_limit, spin_limit, table_limit};
+ghost use Rattle.sg_base.specs.Limits.{bond_limit, spin_limit, table_limit};
 ghost use Rattle.sg_bonds.specs.Cluster.{AreClusters};
 ghost use Rattle.sg_bonds.specs.Cost.{AreCosts};
 ghost use Rattle.sg_bonds.specs.Weakened.{WeakenedTablesExceed};

@@ -1,6 +1,6 @@
 // Bounds of the costs of all bonds at once.
 ghost use Rattle.std.specs.Prelude.{◌≡◌, ◌≢◌, ◌⊎◌, ◌<◌, [], length};
-ghost use Rattle.sg_limits.specs.Limits.{bond_limit, spin_limit, table_limit};
+ghost use Rattle.sg_base.specs.Limits.{bond_limit, spin_limit, table_limit};
 ghost use Rattle.sg_draft.specs.Limits.{large_limits};
 ghost use Rattle.sg_bonds.specs.Weakened.{WeakenedTablesExceed};
 ghost use Rattle.sg_calls.specs.BondCosts.{DecidesBonds, IsBoundsFault, bound_lists};

@@ -1,7 +1,7 @@
 // The calls on a weighted graph by numbers. Beside another status than 0 no result is written, and beside
 // another than 1 no line.
 ghost use Rattle.std.specs.Prelude.{◌≡◌, ◌≢◌, ◌⊎◌, ◌<◌, length};
-ghost use Rattle.sg_limits.specs.Limits.{spin_limit, table_limit};
+ghost use Rattle.sg_base.specs.Limits.{spin_limit, table_limit};
 ghost use Rattle.sg_graph_text.specs.Graph.{terminals_fault, terminals_of};
 ghost use Rattle.sg_tjoin.specs.Allowance.{table_bytes};
 ghost use Rattle.sg_calls.specs.Crossing.{Shows, TellsRefusal};

@@ -7,7 +7,7 @@ use Rattle.sg_arena.specs.Family.{Family, Holds, IsFamily, IsTop, Node, dual_of,
 use Rattle.sg_arena.specs.Slack.{cut_share, duals_between, exactly_one}
 use Rattle.sg_arena.proofs.FamilyLemmas.{leaf-held, sum-names, top-covers}
 use Rattle.sg_arena.proofs.InnerDuals.{inner_top, no_inner}
-use Rattle.sg_sums.proofs.ListLaws.{sum_by-agree, sum_by-zero}
+use Rattle.sg_base.proofs.ListLaws.{sum_by-agree, sum_by-zero}
 
 -- the duals between two leaves are the same both ways
 pub duals_between-back : (f : Family) (u v : ℕ) → duals_between f u v ≡ duals_between f v u

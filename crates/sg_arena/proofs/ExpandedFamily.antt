@@ -10,7 +10,7 @@ use Rattle.sg_arena.specs.Family.{dual_of, has_leaf, holds, link_at, node_at, to
 use Rattle.sg_arena.specs.Slack.{duals_between}
 use Rattle.sg_arena.proofs.PartFamily.{IsFamily-part, IsPart, IsTop-part}
 use Rattle.sg_arena.proofs.FamilyLemmas.{alive_from_holds, child-covered, not_dead, some_leaf, top-apart, top-covers, top-no_child}
-use Rattle.sg_sums.proofs.ListLaws.{cond-same, place_of_any}
+use Rattle.sg_base.proofs.ListLaws.{cond-same, place_of_any}
 
 -- a family from which a top of dual 0 is taken, its children left as tops
 module _ (f : Family) (b : ℕ) (fam : IsFamily f) (top : IsTop f b) (blossom : IsBlossom f b) (room : b < length f.nodes) where

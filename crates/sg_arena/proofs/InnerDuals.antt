@@ -4,8 +4,8 @@ use Rattle.std.proofs.Common.{◌≡◌, ◌≢◌, ℕ, ◌+◌, ◌<◌, ◌�
 use Rattle.std.proofs.Common.{subst, inl, inr, arith, eq-eqb, ne_eqb, true≢false}
 use Rattle.std.specs.List.{list_all}
 use Rattle.std.proofs.lemmas.Bool.{cases_eq, and_from, and_parts, or_right, false≢true, false_from_ne_true}
-use Rattle.sg_sums.specs.Sums.{sum_below}
-use Rattle.sg_sums.proofs.SumLaws.{sum_below-add, sum_below-same, sum_below-le, sum_below-zero, sum_below_pick, sum_by_is_sum_below}
+use Rattle.sg_base.specs.Sums.{sum_below}
+use Rattle.sg_base.proofs.SumLaws.{sum_below-add, sum_below-same, sum_below-le, sum_below-zero, sum_below_pick, sum_by_is_sum_below}
 use Rattle.sg_arena.specs.Family.{Family, node_at, leaves_of, dual_of, has_leaf, holds, Holds, Covers, share, total_of, IsFamily}
 use Rattle.sg_arena.proofs.FamilyLemmas.{child-covered, child-smaller, top-covers, alive_from_holds, name_bound, share-is}
 use Rattle.sg_arena.specs.Sets.{within, strictly_within, share_below, inner_of}

@@ -7,7 +7,7 @@ use Rattle.sg_arena.specs.Changes.{OnlyLeaves}
 use Rattle.sg_arena.specs.Family.{Family, Holds, IsFamily, IsTop, cycle_of, has_leaf, holds, leaf_count, leaves_of, node_at, share}
 use Rattle.sg_arena.proofs.Chains.{or_false}
 use Rattle.sg_arena.proofs.FamilyLemmas.{alive_from_holds, total-names}
-use Rattle.sg_sums.proofs.ListLaws.{cases_option, cond-same, filter-never, filter-single, sum_by-zero}
+use Rattle.sg_base.proofs.ListLaws.{cases_option, cond-same, filter-never, filter-single, sum_by-zero}
 
 module _ (f : Family) (only : OnlyLeaves f) where
   leaf_of : (l : ℕ) → l < leaf_count f → leaves_of f (get_or f.leaf_nodes l 0) ≡ l ∷ []

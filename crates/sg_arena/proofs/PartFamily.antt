@@ -6,7 +6,7 @@ use Rattle.std.specs.Option.{option_map_or}
 use Rattle.sg_arena.specs.Family.{Covers, Family, Holds, IsAlive, IsBlossom, IsCycle, IsFamily, IsTop, after_index, any_holds, blank_link, cycle_of}
 use Rattle.sg_arena.specs.Family.{dual_of, has_leaf, holds, leaf_count, leaf_node, leaves_of, link_at, node_at, single, total_of}
 use Rattle.sg_arena.proofs.FamilyLemmas.{after_within, alive_from_blossom, alive_from_holds, some_leaf}
-use Rattle.sg_sums.proofs.ListLaws.{cases_option, filter-never, list_any-agree_at}
+use Rattle.sg_base.proofs.ListLaws.{cases_option, filter-never, list_any-agree_at}
 
 -- each node of g is one of f with the same set and cycle; f's leaves and children are left
 pub record IsPart (f g : Family) : Type 0 where

@@ -14,7 +14,7 @@ use Rattle.sg_arena.specs.Family.{has_leaf, holds, leaves_of, node_at, share, to
 use Rattle.sg_arena.specs.Slack.{cut_share, duals_between, exactly_one}
 use Rattle.sg_arena.proofs.PartFamily.{IsFamily-part, IsPart, IsTop-part}
 use Rattle.sg_arena.proofs.FamilyLemmas.{alive_from_holds, name_bound, share-is, some_leaf, sum-names, top-apart, total-names}
-use Rattle.sg_sums.proofs.ListLaws.{cases_in, place_of_any, sum_by-agree, sum_by-plus, sum_by-point}
+use Rattle.sg_base.proofs.ListLaws.{cases_in, place_of_any, sum_by-agree, sum_by-plus, sum_by-point}
 
 module _ (f : Family) (outer inner : List ℕ) (delta : ℕ) where
   -- the node under a name after a raise

@@ -1,9 +1,9 @@
 -- How many sets a family has: twice their number is at most three times the number of leaves.
 use Rattle.std.proofs.Common.{◌≡◌, ℕ, ◌+◌, ◌*◌, ◌<◌, ◌≤◌, cond, ltb, length, is_some, sym, ap, ◌∙◌, subst, inl, inr, arith, lt-ltb, le-ltb}
 use Rattle.std.proofs.lemmas.Bool.{cases_lt}
-use Rattle.sg_sums.specs.Sums.{sum_below}
-use Rattle.sg_sums.proofs.SumLaws.{sum_below-add, sum_below-le, sum_below-same}
-use Rattle.sg_sums.proofs.Tallies.{below_exchange, cond_small, sum_below_times, sum_below_unique, times, times_at_most, times_once, times_place, times_some, times_total}
+use Rattle.sg_base.specs.Sums.{sum_below}
+use Rattle.sg_base.proofs.SumLaws.{sum_below-add, sum_below-le, sum_below-same}
+use Rattle.sg_base.proofs.Tallies.{below_exchange, cond_small, sum_below_times, sum_below_unique, times, times_at_most, times_once, times_place, times_some, times_total}
 use Rattle.sg_arena.specs.declared.Link.{Link}
 use Rattle.sg_arena.specs.Family.{Family, leaf_count, node_at, IsAlive, leaves_of, cycle_of, Holds, Covers, blank_link, link_at, IsFamily}
 use Rattle.sg_arena.proofs.FamilyLemmas.{alive_from_holds, child-covered, child-smaller, name_bound}

@@ -13,7 +13,7 @@ use Rattle.sg_arena.specs.Family.{Covers, Family, Holds, IsAlive, IsBlossom, IsC
 use Rattle.sg_arena.specs.Family.{Node, holds, leaf_count, leaves_of, link_at, node_at, share, total_of}
 use Rattle.sg_arena.specs.Slack.{duals_between}
 use Rattle.sg_arena.proofs.FamilyLemmas.{alive_from_holds, leaf_bound, not_dead, some_leaf, top-apart, top-covers, union-odd}
-use Rattle.sg_sums.proofs.ListLaws.{cond-same, list_any-agree_at, place_of_any}
+use Rattle.sg_base.proofs.ListLaws.{cond-same, list_any-agree_at, place_of_any}
 use Rattle.sg_arena.proofs.SetLemmas.{has_leaf-filter, has_leaf-filter_out}
 
 -- a family whose tops are made into a blossom at a dead name

@@ -4,9 +4,9 @@ use Rattle.std.proofs.Common.{◌<◌, ◌^◌, ◌∷◌, ◌≡◌, ◌≤◌,
 use Rattle.std.proofs.lemmas.List.{get_or_read}
 use Rattle.std.proofs.lemmas.List.Sums.{sum_by-cons}
 use Rattle.slab.specs.Slab.{HasRoomFor, Slab, get, slab_len}
-use Rattle.sg_sums.proofs.ListLaws.{cases_option, some≢none}
-use Rattle.sg_sums.proofs.SumLaws.{sum_by_is_sum_below}
-use Rattle.sg_sums.specs.Sums.{sum_below}
+use Rattle.sg_base.proofs.ListLaws.{cases_option, some≢none}
+use Rattle.sg_base.proofs.SumLaws.{sum_by_is_sum_below}
+use Rattle.sg_base.specs.Sums.{sum_below}
 use Rattle.sg_arena.specs.declared.cells.Cell.{Cell}
 use Rattle.sg_arena.specs.Sets.{alive_at}
 use Rattle.sg_arena.specs.declared.cells.Kind.TheVariants.{Blossom, Leaf}

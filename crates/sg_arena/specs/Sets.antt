@@ -1,7 +1,7 @@
 -- The sets of a family that lie within another, what their duals sum to at a leaf, and whether a name has one.
 use Rattle.std.specs.Prelude.{ℕ, ◌&&◌, ◌==◌, Bool, not, cond, is_some, length}
 use Rattle.std.specs.List.{list_all}
-use Rattle.sg_sums.specs.Sums.{sum_below}
+use Rattle.sg_base.specs.Sums.{sum_below}
 use Rattle.sg_arena.specs.Family.{Family, dual_of, holds, leaves_of, node_at}
 
 -- each leaf of x is one of s

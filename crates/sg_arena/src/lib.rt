@@ -29,7 +29,7 @@
 #![tactic(auto)]
 
 ghost use Rattle.std.specs.Prelude.{◌≡◌, ℕ, ◌+◌, pos, ◌≤ℤ◌};
-ghost use Rattle.sg_sums.specs.Naturals.{nat_of};
+ghost use Rattle.sg_base.specs.Naturals.{nat_of};
 
 mod cells;
 mod ghost_list;
@@ -37,7 +37,7 @@ mod history;
 
 use cells::{Cell, Kind, free_children, lower_duals, raise_duals, seat_children};
 use history::History;
-use sg_steps::Steps;
+use sg_base::Steps;
 use slab::Slab;
 use std::alloc::{AllocError, Global};
 use std::marker::Model;
@@ -105,7 +105,7 @@ impl Arena {
     ghost use Rattle.std.specs.Prelude.{◌≡◌, ℕ, length, ◌+◌, ◌*◌, ◌<◌, ◌↔◌, IsTrue, pos, ◌≤ℤ◌, ◌≤◌, ◌^◌, IfOk, MatchOption, [], Some, None};
     ghost use Rattle.sg_arena.specs.Family.{Family, IsFamily, leaf_count, leaf_node, node_at, IsAlive, Holds, IsTop, dual_of, total_of, cycle_of, IsBlossom, link_at, IsChild, IsChildAt, IsChildOf, Follows, IsLinkOf};
     ghost use Rattle.sg_arena.specs.Changes.{OnlyLeaves, CanShrink, with_slot, blossom_of, CanRaise, raised};
-    ghost use Rattle.sg_sums.specs.Naturals.{nat_of};
+    ghost use Rattle.sg_base.specs.Naturals.{nat_of};
 
     /// An arena of the leaves 0 to `k - 1`, each a top with dual 0, before the first step. It takes all
     /// the memory that later calls need: there is a name for each leaf and for each blossom over them.

@@ -4,7 +4,7 @@ use Rattle.sg_bonds.proofs.OneCost.{cost-one}
 use Rattle.sg_bonds.proofs.OneEntry.{push_each}
 use Rattle.sg_bonds.specs.Cost.{AreCosts, IsRigid}
 use Rattle.sg_bonds.specs.Cluster.{AreClusters, HasRigid}
-use Rattle.sg_walk.specs.Naming.{AllNamed}
+use Rattle.sg_planar.specs.Naming.{AllNamed}
 use Rattle.sg_bonds.specs.Naming.{ShowsRigid}
 
 -- the costs above 0 are those of the rigid bonds

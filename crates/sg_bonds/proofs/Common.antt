@@ -19,9 +19,9 @@ pub use Rattle.sg_model.specs.WellFormed.{IsInstance}
 pub use Rattle.sg_model.specs.Spins.{IsUpOrDown, IsAssignment, spin}
 pub use Rattle.sg_model.specs.Energy.{product, IsGroundState, IsLeastEnergy, energy, weight}
 pub use Rattle.sg_model.specs.Connected.{IsWalk, JoinedBy, Reached, all_bonds, IsConnected}
-pub use Rattle.sg_walk.specs.Walk.{has}
-pub use Rattle.sg_limits.specs.Limits.{sum_limit, forced_limit}
+pub use Rattle.sg_planar.specs.Walk.{has}
+pub use Rattle.sg_base.specs.Limits.{sum_limit, forced_limit}
 pub use Rattle.sg_model.specs.declared.bond.Bond.{Bond}
-pub use Rattle.sg_sums.specs.Sets.{chosen_below, holds, is_marked}
+pub use Rattle.sg_base.specs.Sets.{chosen_below, holds, is_marked}
 pub use Rattle.sg_graph.specs.Web.{Graph, edge_at, edge_count, edge_weight, ends_at, total_weight, weight_at, weight_of, with_weight}
 pub use Rattle.sg_planar.specs.Fit.{Embedding, IsPlanar}

@@ -4,13 +4,13 @@ use Rattle.sg_bonds.proofs.Common.{inl, inr, ◌≡◌, ◌≢◌, ℕ, ◌+◌,
 use Rattle.sg_bonds.proofs.Common.{sum_by, unsigned_abs, eq-eqb, eqb-true, get_or-set_other, get_or-set_same, length-set, set-set, cases_eq, false≢true}
 use Rattle.sg_bonds.proofs.Common.{set-get_or, chosen_below, holds, Graph, edge_at, edge_count, edge_weight, ends_at, total_weight, weight_at, weight_of, with_weight}
 use Rattle.std.proofs.lemmas.List.Sums.{sum_by-set}
-use Rattle.sg_sums.specs.Parity.{xor, parity_below}
-use Rattle.sg_sums.specs.Sums.{sum_below}
-use Rattle.sg_sums.specs.Ends.{is_end}
-use Rattle.sg_sums.proofs.MemberSums.{members_sum}
-use Rattle.sg_sums.proofs.ParityLaws.{odd_is, parity_below-same, parity_below-xor, parity_below_pick, xor-false, xor_comm}
-use Rattle.sg_sums.proofs.RisingLists.{chosen_below_low, chosen_below_rises, holds-chosen_below, members_parity}
-use Rattle.sg_sums.proofs.SumLaws.{sum_below-add, sum_below-same, sum_below_pick}
+use Rattle.sg_base.specs.Parity.{xor, parity_below}
+use Rattle.sg_base.specs.Sums.{sum_below}
+use Rattle.sg_base.specs.Ends.{is_end}
+use Rattle.sg_base.proofs.MemberSums.{members_sum}
+use Rattle.sg_base.proofs.ParityLaws.{odd_is, parity_below-same, parity_below-xor, parity_below_pick, xor-false, xor_comm}
+use Rattle.sg_base.proofs.RisingLists.{chosen_below_low, chosen_below_rises, holds-chosen_below, members_parity}
+use Rattle.sg_base.proofs.SumLaws.{sum_below-add, sum_below-same, sum_below_pick}
 use Rattle.sg_graph.specs.declared.web.Edge.{Edge}
 use Rattle.sg_graph.specs.Join.{IsJoin, IsLeastJoin}
 use Rattle.sg_graph.proofs.Joins.{ends_parity, odd_from_cond}

@@ -1,7 +1,7 @@
 -- Spins that break a least join among those that have a bond, or do not, are least among those with their product at the bond.
 use Rattle.sg_bonds.proofs.Common.{◌≡◌, ℕ, ◌<◌, ◌≤◌, ℤ, Bool, List, Option, None, Some, Result, Ok, Err, refl, sym, ◌∙◌, ap, arith, IfOk, IfSome, ints}
 use Rattle.sg_bonds.proofs.Common.{forced_limit, holds, Bond, bond_at, bond_count, IsAssignment, IsUpOrDown, energy, product, Graph, edge_count, total_weight, Embedding, IsPlanar}
-use Rattle.sg_sums.proofs.RisingLists.{chosen_below_low, chosen_below_rises}
+use Rattle.sg_base.proofs.RisingLists.{chosen_below_low, chosen_below_rises}
 use Rattle.sg_graph.specs.Join.{AreTerminals}
 use Rattle.sg_planar.specs.BrokenLists.{BreaksExactly}
 use Rattle.sg_dual.specs.Dual.{dual_web, frustrated_faces, is_frustrated}

@@ -2,9 +2,9 @@
 use Rattle.sg_bonds.proofs.Common.{inl, inr, ◌≡◌, ◌≢◌, ℕ, suc, ◌+◌, ◌<◌, ◌≤◌, ℤ, pos, Bool, true, false, cond, List, [], ◌∷◌, sym, ◌∙◌, ap, subst, arith}
 use Rattle.sg_bonds.proofs.Common.{sum_by, length, get_or, unsigned_abs, cases_Bool, cases_eq, false≢true, get_or_default, sum_limit, holds, Bond, Ising, bond_count, IsInstance, spin, weight}
 use Rattle.std.proofs.lemmas.List.Sums.{sum_by-cons}
-use Rattle.sg_sums.proofs.ListLaws.{cases_in}
-use Rattle.sg_sums.proofs.MemberSums.{members_sum}
-use Rattle.sg_sums.proofs.SumLaws.{sum_below-le, sum_by_is_sum_below}
+use Rattle.sg_base.proofs.ListLaws.{cases_in}
+use Rattle.sg_base.proofs.MemberSums.{members_sum}
+use Rattle.sg_base.proofs.SumLaws.{sum_below-le, sum_by_is_sum_below}
 use Rattle.sg_planar.specs.declared.components.Part.{Part}
 use Rattle.sg_planar.specs.Parts.{AreParts, IsPart}
 use Rattle.sg_ground.specs.Placed.{WritesAt}

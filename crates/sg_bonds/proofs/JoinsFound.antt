@@ -3,11 +3,11 @@ use Rattle.sg_bonds.proofs.Common.{◌≡◌, ℕ, ◌^◌, ◌<◌, ◌≤◌, 
 use Rattle.sg_bonds.proofs.Common.{All, to_z, w64, FitsSigned, get_or-set_other, get_or-set_same, length-set, cases_eq, fits_signed_from_abs, ints, to_z_pos}
 use Rattle.sg_bonds.proofs.Common.{forced_limit, chosen_below, holds, is_marked, Graph, edge_at, edge_count, total_weight, weight_of, with_weight}
 use Rattle.std.specs.List.Sorted.{IsStrictlyIncreasing}
-use Rattle.sg_sums.specs.Ends.{is_end}
-use Rattle.sg_sums.specs.Parity.{parity_by, xor}
-use Rattle.sg_sums.proofs.Choosing.{chosen_below_same}
-use Rattle.sg_sums.proofs.ParityLaws.{xor-false}
-use Rattle.sg_sums.proofs.RisingLists.{chosen_below_low, chosen_below_rises, holds-chosen_below, parity_of_rising}
+use Rattle.sg_base.specs.Ends.{is_end}
+use Rattle.sg_base.specs.Parity.{parity_by, xor}
+use Rattle.sg_base.proofs.Choosing.{chosen_below_same}
+use Rattle.sg_base.proofs.ParityLaws.{xor-false}
+use Rattle.sg_base.proofs.RisingLists.{chosen_below_low, chosen_below_rises, holds-chosen_below, parity_of_rising}
 use Rattle.sg_graph.specs.Join.{AreTerminals, IsLeastJoin}
 use Rattle.sg_graph.proofs.OnceLists.{rising_light}
 use Rattle.sg_bonds.specs.JoinsWith.{IsLeastBeside, IsLeastJoinWith, turned_at, with_edge}

@@ -3,10 +3,10 @@ use Rattle.sg_bonds.proofs.Common.{inl, inr, ◌≡◌, ◌≢◌, ℕ, ◌+◌,
 use Rattle.sg_bonds.proofs.Common.{arith, sum_by, length, cases_Bool, false≢true, false_from_ne_true, ints, holds, Ising, IsBond, bond_at, bond_count}
 use Rattle.sg_bonds.proofs.Common.{IsInstance, JoinedBy, all_bonds, IsAssignment, IsUpOrDown, spin, IsGroundState, energy, product, weight}
 use Rattle.std.proofs.lemmas.List.Elements.{All-from_get_or}
-use Rattle.sg_sums.specs.Sums.{sum_below}
-use Rattle.sg_sums.proofs.ListLaws.{cases_in}
-use Rattle.sg_sums.proofs.MemberSums.{members_sum}
-use Rattle.sg_sums.proofs.SumLaws.{sum_below-add, sum_below-same, sum_by_is_sum_below}
+use Rattle.sg_base.specs.Sums.{sum_below}
+use Rattle.sg_base.proofs.ListLaws.{cases_in}
+use Rattle.sg_base.proofs.MemberSums.{members_sum}
+use Rattle.sg_base.proofs.SumLaws.{sum_below-add, sum_below-same, sum_by_is_sum_below}
 use Rattle.sg_model.proofs.BrokenEnergy.{broken_cost, energy_from_costs, unit_at}
 use Rattle.sg_model.proofs.Paths.{reached_more}
 use Rattle.sg_planar.specs.declared.components.Part.{Part}

@@ -4,10 +4,10 @@ use Rattle.sg_bonds.proofs.Common.{get_or, set, refl, sym, ◌∙◌, ap, ap₂,
 use Rattle.sg_bonds.proofs.Common.{get_or_default, length-set, sum_limit, Bond, Ising, IsBond, bond_at, bond_count, IsInstance, IsUpOrDown, IsAssignment, spin, energy, product, weight}
 use Rattle.std.proofs.lemmas.List.Elements.{All-from_get_or}
 use Rattle.std.proofs.lemmas.List.FromFn.{get_or-map-range_with_len, length-map-range_with_len}
-use Rattle.sg_sums.specs.Parity.{xor}
-use Rattle.sg_sums.specs.Sums.{sum_below}
-use Rattle.sg_sums.proofs.SumLaws.{sum_by_is_sum_below}
-use Rattle.sg_walk.specs.Naming.{AllNamed}
+use Rattle.sg_base.specs.Parity.{xor}
+use Rattle.sg_base.specs.Sums.{sum_below}
+use Rattle.sg_base.proofs.SumLaws.{sum_by_is_sum_below}
+use Rattle.sg_planar.specs.Naming.{AllNamed}
 use Rattle.sg_bonds.specs.Flipped.{ArePartNames, with_part_flipped}
 use Rattle.sg_bonds.proofs.Agreement.{units}
 use Rattle.sg_bonds.proofs.ForcedMinimum.{coupling_size, unit_product}

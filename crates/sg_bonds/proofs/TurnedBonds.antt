@@ -2,9 +2,9 @@
 use Rattle.sg_bonds.proofs.Common.{inl, inr, ◌≡◌, ◌≤◌, ℕ, ◌<◌, ℤ, pos, neg_ℤ, ◌+ℤ◌, ◌-ℤ◌, Bool, true, false, eqb, List, length, map, sym, ◌∙◌, ap, ap₂, subst}
 use Rattle.sg_bonds.proofs.Common.{arith, unsigned_abs, false≢true, ints, get_or-map, length-map, forced_limit, chosen_below, is_marked, Bond, Ising, bond_at}
 use Rattle.sg_bonds.proofs.Common.{bond_count, IsInstance, IsConnected, IsAssignment, IsUpOrDown, energy, product, weight, weight_of, Embedding, IsPlanar}
-use Rattle.sg_sums.specs.Parity.{parity_by, xor}
-use Rattle.sg_sums.proofs.ParityLaws.{xor_self}
-use Rattle.sg_sums.proofs.RisingLists.{parity_of_rising}
+use Rattle.sg_base.specs.Parity.{parity_by, xor}
+use Rattle.sg_base.proofs.ParityLaws.{xor_self}
+use Rattle.sg_base.proofs.RisingLists.{parity_of_rising}
 use Rattle.sg_model.specs.Broken.{is_broken}
 use Rattle.sg_graph.specs.Join.{IsJoin}
 use Rattle.sg_graph.proofs.OnceLists.{rising_light}

@@ -7,8 +7,8 @@ use Rattle.std.proofs.Math.IntN.{*ℤ-zero, suc_ℤ-*ℤ, zero-*ℤ}
 use Rattle.std.proofs.lemmas.Bool.Decides.{Decides-int_eq}
 use Rattle.std.proofs.lemmas.List.FromFn.{get_or-map-range_with_len}
 use Rattle.std.proofs.lemmas.List.Sums.{fold_push}
-use Rattle.sg_sums.specs.Sums.{sum_below}
-use Rattle.sg_sums.proofs.SumLaws.{at-le-sum_below, sum_below-add, sum_below-le, sum_below-zero, sum_by_is_sum_below}
+use Rattle.sg_base.specs.Sums.{sum_below}
+use Rattle.sg_base.proofs.SumLaws.{at-le-sum_below, sum_below-add, sum_below-le, sum_below-zero, sum_by_is_sum_below}
 use Rattle.sg_model.specs.Changes.{recoupled}
 use Rattle.sg_model.proofs.Recoupled.{all_long, coupled_at_place}
 use Rattle.sg_bonds.specs.Weakened.{turned_amount, turns, weakened, weakened_coupling}

@@ -8,9 +8,9 @@ use Rattle.std.proofs.Math.ListN.{get_or-map}
 use Rattle.std.proofs.Math.Nat.{mul-le-mul_left}
 use Rattle.std.proofs.lemmas.Bool.Decides.{Decides-int_eq}
 use Rattle.std.proofs.lemmas.List.Sums.{get_or-le-sum_by}
-use Rattle.sg_sums.specs.Sums.{sum_below}
-use Rattle.sg_sums.proofs.ListLaws.{map-agree}
-use Rattle.sg_sums.proofs.SumLaws.{at-le-sum_below, sum_below-same, sum_below_pick}
+use Rattle.sg_base.specs.Sums.{sum_below}
+use Rattle.sg_base.proofs.ListLaws.{map-agree}
+use Rattle.sg_base.proofs.SumLaws.{at-le-sum_below, sum_below-same, sum_below_pick}
 use Rattle.sg_model.specs.Changes.{coupled_at, negated, opposite, recoupled, with_couplings}
 use Rattle.sg_ground.specs.Allowance.{TablesExceed}
 use Rattle.sg_ground.proofs.Allowed.{all_fit}

@@ -1,9 +1,9 @@
 -- Minimum T-joins among those that have one edge, or that do not have it; and how they are found without that edge.
 use Rattle.std.specs.Prelude.{◌≡◌, ℕ, ◌==◌, ◌&&◌, ◌≤◌, ℤ, pos, negsuc, Bool, cond, List}
 use Rattle.std.specs.Ordering.{int_eq}
-use Rattle.sg_sums.specs.Parity.{xor}
-use Rattle.sg_sums.specs.Sets.{chosen_below, holds}
-use Rattle.sg_sums.specs.Ends.{is_end}
+use Rattle.sg_base.specs.Parity.{xor}
+use Rattle.sg_base.specs.Sets.{chosen_below, holds}
+use Rattle.sg_base.specs.Ends.{is_end}
 use Rattle.sg_model.specs.declared.bond.Bond.{Bond}
 use Rattle.sg_model.specs.Connected.{IsConnected}
 use Rattle.sg_model.specs.Broken.{is_negative}

@@ -1,6 +1,6 @@
 -- The rigid bonds as a set.
 use Rattle.std.specs.Prelude.{◌≡◌, ◌↔◌, ℕ, ◌<◌, ℤ, pos, ◌<ℤ◌, Bool, true, List, length, slice_index_or}
-use Rattle.sg_walk.specs.Walk.{has}
+use Rattle.sg_planar.specs.Walk.{has}
 
 -- of the costs before `stop`, the set holds `true` at those above 0
 pub record ShowsRigid (costs : List ℤ) (set : List Bool) (stop : ℕ) : Type 0 where

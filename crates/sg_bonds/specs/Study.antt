@@ -1,6 +1,6 @@
 -- What is studied: a planar instance, and one of its ground states.
 use Rattle.std.specs.Prelude.{◌≡◌, ◌≤◌}
-use Rattle.sg_limits.specs.Limits.{sum_limit}
+use Rattle.sg_base.specs.Limits.{sum_limit}
 use Rattle.sg_model.specs.Energy.{IsGroundState, energy, weight}
 use Rattle.sg_bonds.specs.declared.weaken.Study.{Study}
 

@@ -14,8 +14,8 @@ use super::bounds::Turned;
 use super::forcing::{least_with, other_product};
 use super::states::{BondStates, LeastBroken, breaks};
 use super::weaken::{Study, product_at};
+use sg_base::{flip, places};
 use sg_model::{Bond, Spins};
-use sg_sums::{flip, places};
 use sg_tjoin::Unproved;
 use std::alloc::Global;
 

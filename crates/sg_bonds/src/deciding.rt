@@ -1,9 +1,9 @@
 // Bounds that tell which bonds are rigid, and lower bounds that rise.
 ghost use Rattle.std.specs.Prelude.{◌≡◌, ◌≢◌, ◌⊎◌, ◌+◌, ◌*◌, ◌≤◌, ◌≤ℤ◌, ◌<ℤ◌, ℕ, pos, true, false, length, All, IsTrue};
-ghost use Rattle.sg_limits.specs.Limits.{forced_limit, sum_limit};
+ghost use Rattle.sg_base.specs.Limits.{forced_limit, sum_limit};
 ghost use Rattle.sg_model.specs.Ising.{bond_count};
 ghost use Rattle.sg_model.specs.Energy.{weight};
-ghost use Rattle.sg_walk.specs.Walk.{has};
+ghost use Rattle.sg_planar.specs.Walk.{has};
 ghost use Rattle.sg_bonds.specs.Bounds.{Decides, Narrows, no_bound, risen};
 ghost use Rattle.sg_bonds.specs.Cluster.{HasRigid};
 

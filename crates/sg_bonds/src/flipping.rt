@@ -1,10 +1,10 @@
 // Upper bounds of costs by flips of parts of the spins.
 ghost use Rattle.std.specs.Prelude.{◌≡◌, ◌+◌, ◌<◌, ◌≤◌, ◌^◌, ◌+ℤ◌, ◌*ℤ◌, ◌==◌, pos, if◌then◌else◌, length, replicate, set, slice_index, slice_index_or, unsigned_abs, IfOk};
-ghost use Rattle.sg_limits.specs.Limits.{sum_limit};
+ghost use Rattle.sg_base.specs.Limits.{sum_limit};
 ghost use Rattle.sg_model.specs.Ising.{IsBond, bond_count};
 ghost use Rattle.sg_model.specs.Spins.{IsAssignment};
 ghost use Rattle.sg_model.specs.Energy.{IsGroundState, product, weight};
-ghost use Rattle.sg_walk.specs.Walk.{has};
+ghost use Rattle.sg_planar.specs.Walk.{has};
 ghost use Rattle.sg_bonds.specs.Bounds.{Narrows};
 ghost use Rattle.sg_bonds.specs.Flipped.{AreGains, ArePartNames, AreNamedParts};
 
@@ -12,7 +12,7 @@ use super::NoMemory;
 use super::bounds::{Bound, is_turned, noted};
 use super::components::numbers_below;
 use sg_model::{Bond, Instance, Spins};
-use sg_walk::names;
+use sg_planar::names;
 use std::alloc::Global;
 
 /// Parts of the spins: for each spin the name of its part, and for each name what is gained by flipping that part.

@@ -1,6 +1,6 @@
 // The least energy with a product at a bond, by a coupling that forces it.
 ghost use Rattle.std.specs.Prelude.{◌≡◌, ◌+◌, ◌<◌, ◌≤◌, ◌^◌, ◌*ℤ◌, neg_ℤ, pos, length, IfErr, IfOk, unsigned_abs};
-ghost use Rattle.sg_limits.specs.Limits.{sum_limit};
+ghost use Rattle.sg_base.specs.Limits.{sum_limit};
 ghost use Rattle.sg_model.specs.Ising.{IsBond, bond_at, bond_count};
 ghost use Rattle.sg_model.specs.Spins.{IsAssignment, IsUpOrDown};
 ghost use Rattle.sg_model.specs.Energy.{IsGroundState, energy, product, weight};

@@ -1,19 +1,19 @@
 // Minimum T-joins among those that have an edge, or that do not: proposed by repairs, and judged.
 ghost use Rattle.std.specs.Prelude.{◌≡◌, ◌<◌, ◌≤◌, ◌^◌, ◌&&◌, ℕ, false, length, pos, All, IfOk, IfSome, IsTrue};
 ghost use Rattle.std.specs.List.Sorted.{IsStrictlyIncreasing};
-ghost use Rattle.sg_limits.specs.Limits.{forced_limit};
-ghost use Rattle.sg_sums.specs.Ends.{is_end};
-ghost use Rattle.sg_sums.specs.Parity.{xor};
-ghost use Rattle.sg_sums.specs.Sets.{holds, is_marked};
+ghost use Rattle.sg_base.specs.Limits.{forced_limit};
+ghost use Rattle.sg_base.specs.Ends.{is_end};
+ghost use Rattle.sg_base.specs.Parity.{xor};
+ghost use Rattle.sg_base.specs.Sets.{holds, is_marked};
 ghost use Rattle.sg_graph.specs.Join.{AreTerminals, IsLeastJoin};
 ghost use Rattle.sg_graph.specs.Web.{edge_at, edge_count, total_weight, weight_of};
 ghost use Rattle.sg_bonds.specs.JoinsWith.{IsLeastBeside, IsLeastJoinWith, turned_at};
 
 use super::NoMemory;
+use sg_base::{all_below, flip, places};
 use sg_graph::{EdgeList, Terminals, Web, turn_ends};
 use sg_nest::{Judge, Nest};
 use sg_repairs::Repairs;
-use sg_sums::{all_below, flip, places};
 use std::alloc::Global;
 
 /// A weighted graph and its terminals, with a judge of T-joins.

@@ -1,6 +1,6 @@
 ghost use Rattle.std.specs.Prelude.{◌≡◌, ◌<◌, ◌≤◌, ◌*◌, ◌+ℤ◌, ◌-ℤ◌, ◌*ℤ◌, ◌≤ℤ◌, ℕ, ℤ, Bool, false, List, pos};
-ghost use Rattle.sg_limits.specs.Limits.{sum_limit};
-ghost use Rattle.sg_sums.specs.Sets.{holds};
+ghost use Rattle.sg_base.specs.Limits.{sum_limit};
+ghost use Rattle.sg_base.specs.Sets.{holds};
 ghost use Rattle.sg_graph.specs.Web.{Graph, edge_count};
 ghost use Rattle.sg_model.specs.Ising.{Ising, bond_at, bond_count};
 ghost use Rattle.sg_model.specs.WellFormed.{IsInstance};

@@ -48,7 +48,7 @@ pub use enclosing::bond_bounds;
 pub use law::{forced_minimum, least_joins_with, rigid_clusters_agree, weakened_bounds};
 pub use naming::{clusters, clusters_by, clusters_within};
 pub use narrowing::costs_of;
-use sg_list::Numbers;
+use sg_base::Numbers;
 pub use states::{BondStates, LeastBroken};
 use std::alloc::AllocError;
 

@@ -1,10 +1,10 @@
 ghost use Rattle.std.specs.Prelude.{◌≡◌, ◌≤◌, length, IfErr, IfOk};
-ghost use Rattle.sg_limits.specs.Limits.{sum_limit};
+ghost use Rattle.sg_base.specs.Limits.{sum_limit};
 ghost use Rattle.sg_model.specs.Ising.{bond_count};
 ghost use Rattle.sg_model.specs.Energy.{weight};
 ghost use Rattle.sg_bonds.specs.Cost.{AreCosts};
 ghost use Rattle.sg_bonds.specs.Cluster.{AreClusters, HasRigid};
-ghost use Rattle.sg_walk.specs.Walk.{has};
+ghost use Rattle.sg_planar.specs.Walk.{has};
 ghost use Rattle.sg_bonds.specs.Naming.{ShowsRigid};
 ghost use Rattle.sg_bonds.specs.Weakened.{WeakenedTablesExceed};
 ghost use Rattle.sg_tjoin.specs.Allowance.{IfTooLarge};
@@ -13,9 +13,8 @@ use super::NoMemory;
 use super::breaking::rigid;
 use super::telling::rigid_marks;
 use sg_model::{ClusterList, Instance};
-use sg_planar::Planar;
+use sg_planar::{Planar, names};
 use sg_tjoin::Unproved;
-use sg_walk::names;
 use std::alloc::{AllocError, Global};
 
 /// For each spin the least spin of its cluster, those that it reaches over rigid bonds, itself among them. Which

@@ -1,6 +1,6 @@
 // The costs of chosen bonds, by bounds that are narrowed until they meet.
 ghost use Rattle.std.specs.Prelude.{◌≡◌, ◌<◌, ◌≤◌, length, All, IfErr, IfOk, OnOk};
-ghost use Rattle.sg_limits.specs.Limits.{sum_limit};
+ghost use Rattle.sg_base.specs.Limits.{sum_limit};
 ghost use Rattle.sg_model.specs.Ising.{bond_count};
 ghost use Rattle.sg_model.specs.Energy.{weight};
 ghost use Rattle.sg_tjoin.specs.Allowance.{IfTooLarge};

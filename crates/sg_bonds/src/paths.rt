@@ -2,13 +2,13 @@
 ghost use Rattle.std.specs.Prelude.{◌≡◌, ◌<◌, ℕ, true, false, int_le, length, replicate, IfOk};
 ghost use Rattle.sg_model.specs.Ising.{bond_at, bond_count};
 ghost use Rattle.sg_model.specs.Connected.{Reached};
-ghost use Rattle.sg_walk.specs.Walk.{has};
+ghost use Rattle.sg_planar.specs.Walk.{has};
 ghost use Rattle.sg_bonds.specs.Bounds.{IsMet, costs_at_least};
 
 use super::NoMemory;
 use super::bounds::Bound;
 use sg_model::Instance;
-use sg_walk::walk;
+use sg_planar::walk;
 use std::alloc::Global;
 
 /// Whether the upper bound of the bond is a lower bound too: no cost is below 0, and none is below the costs

@@ -1,6 +1,6 @@
 // Least states with a product at a bond, by regions that are repaired for one bond after another.
 ghost use Rattle.std.specs.Prelude.{◌≡◌, ◌<◌, ◌≤◌, ◌+ℤ◌, ◌-ℤ◌, ℤ, pos, unsigned_abs, IfOk, IfSome};
-ghost use Rattle.sg_limits.specs.Limits.{forced_limit};
+ghost use Rattle.sg_base.specs.Limits.{forced_limit};
 ghost use Rattle.sg_model.specs.Ising.{bond_at, bond_count};
 ghost use Rattle.sg_model.specs.Connected.{IsConnected};
 ghost use Rattle.sg_model.specs.Spins.{IsAssignment, IsUpOrDown};

@@ -1,12 +1,12 @@
 // Which bonds are rigid, without their costs: told by the ground states of weakened instances, and by other
 // ground states.
 ghost use Rattle.std.specs.Prelude.{◌≡◌, ◌↔◌, ◌⊎◌, ◌<◌, ◌≤◌, [], ◌∷◌, ◌++◌, true, length, IfErr, IfOk, OnOk};
-ghost use Rattle.sg_limits.specs.Limits.{sum_limit};
+ghost use Rattle.sg_base.specs.Limits.{sum_limit};
 ghost use Rattle.sg_model.specs.Ising.{bond_count};
 ghost use Rattle.sg_model.specs.Spins.{IsAssignment};
 ghost use Rattle.sg_model.specs.Energy.{IsGroundState, energy, weight};
 ghost use Rattle.sg_tjoin.specs.Allowance.{IfTooLarge};
-ghost use Rattle.sg_walk.specs.Walk.{has};
+ghost use Rattle.sg_planar.specs.Walk.{has};
 ghost use Rattle.sg_bonds.specs.declared.telling.Told.TheVariants.{Free, Rigid, Unknown};
 ghost use Rattle.sg_bonds.specs.Cost.{IsRigid};
 ghost use Rattle.sg_bonds.specs.Cluster.{HasRigid};

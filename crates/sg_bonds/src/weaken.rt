@@ -1,7 +1,7 @@
 // Ground states where bonds are weakened, and what they tell by the law `weakened_bounds`.
 ghost use Rattle.std.specs.Prelude.{◌≡◌, ◌↔◌, ◌+◌, ◌*◌, ◌<◌, ◌≤◌, ◌^◌, ◌-ℤ◌, ◌*ℤ◌, ◌≤ℤ◌, length, pos, true, IfErr, IfOk, IsTrue, unsigned_abs};
-ghost use Rattle.sg_limits.specs.Limits.{forced_limit, sum_limit};
-ghost use Rattle.sg_sums.specs.Sums.{sum_below};
+ghost use Rattle.sg_base.specs.Limits.{forced_limit, sum_limit};
+ghost use Rattle.sg_base.specs.Sums.{sum_below};
 ghost use Rattle.sg_model.specs.Ising.{IsBond, bond_at, bond_count};
 ghost use Rattle.sg_model.specs.Spins.{IsUpOrDown};
 ghost use Rattle.sg_model.specs.Energy.{product, weight};
@@ -11,8 +11,8 @@ ghost use Rattle.sg_bonds.specs.Study.{IsStudy};
 ghost use Rattle.sg_bonds.specs.Weakened.{FitsWeakened, IsWeakened, WeakenedTablesExceed, amount_at, weakened, weakened_coupling as coupling_weakened, weakened_couplings as couplings_weakened};
 
 use super::NoMemory;
+use sg_base::{FORCED_LIMIT, SUM_LIMIT};
 use sg_ground::{State, ground_state_within};
-use sg_limits::{FORCED_LIMIT, SUM_LIMIT};
 use sg_model::{Bond, Couplings, Instance, Spins};
 use sg_planar::Planar;
 use sg_tjoin::Unproved;

@@ -3,7 +3,7 @@ use Rattle.std.proofs.Common.{◌≡◌, ℕ, ◌+◌, ◌<◌, ℤ, pos, inl, i
 use Rattle.std.proofs.lemmas.Bool.{cases_lt, cases_eq}
 use Rattle.std.proofs.lemmas.List.{get_or_append_left, get_or_push, map_push}
 use Rattle.std.proofs.lemmas.List.FromFn.{get_or-map-range_with_len, length-map-range_with_len}
-use Rattle.sg_limits.specs.Limits.{spin_limit, table_limit}
+use Rattle.sg_base.specs.Limits.{spin_limit, table_limit}
 use Rattle.sg_model.specs.declared.refusal.Fault.{Fault}
 use Rattle.sg_model.specs.Faults.{OrNoMemory}
 use Rattle.sg_model.specs.declared.refusal.Fault.TheVariants.{NoMemory, Refused}

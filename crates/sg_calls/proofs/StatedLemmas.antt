@@ -2,7 +2,7 @@
 use Rattle.std.proofs.Common.{◌≡◌, ℕ, ◌+◌, ◌<◌, ◌≤◌, ℤ, pos, None, Some, List, [], ◌∷◌, ◌++◌, get_or, length, map, take, refl, ap, sym, ◌∙◌, le-ltb}
 use Rattle.std.proofs.lemmas.List.{map-append, take_more}
 use Rattle.sg_check.specs.declared.packing.Loop.{Loop}
-use Rattle.sg_limits.specs.Limits.{input_limit}
+use Rattle.sg_base.specs.Limits.{input_limit}
 use Rattle.sg_draft.specs.Members.{bad_entry}
 use Rattle.sg_draft.specs.declared.member.Member.TheVariants as member
 use Rattle.sg_calls.specs.Proofs.{first_bad_spin, values_fault}

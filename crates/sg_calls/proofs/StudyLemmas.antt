@@ -2,7 +2,7 @@
 use Rattle.std.proofs.Common.{inl, inr, ◌≡◌, ◌⊎◌, ℕ, ◌<◌, ◌≤◌, None, Some, Option, [], length, refl, ap, ◌∙◌, arith, length-set}
 use Rattle.std.proofs.lemmas.Bool.{cases_lt}
 use Rattle.std.proofs.lemmas.List.FromFn.{length-map-range_with_len}
-use Rattle.sg_limits.specs.Limits.{bond_limit, spin_limit, table_limit}
+use Rattle.sg_base.specs.Limits.{bond_limit, spin_limit, table_limit}
 use Rattle.sg_model.specs.Changes.{flipped_at, recoupled, with_coupling, with_seam_flipped}
 use Rattle.sg_model.specs.Ising.{Ising, bond_at, bond_count}
 use Rattle.sg_model.proofs.Recoupled.{all_long}

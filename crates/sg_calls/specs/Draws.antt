@@ -1,6 +1,6 @@
 -- Draws of a law by its number.
 use Rattle.std.specs.Prelude.{ℕ, ℤ, pos, ◌+◌, ◌==◌, nat_lt, if◌then◌else◌, Option, List, [], ◌∷◌, replicate}
-use Rattle.sg_limits.specs.Limits.{large_bond_limit}
+use Rattle.sg_base.specs.Limits.{large_bond_limit}
 use Rattle.sg_laws.specs.Stream.{alternating, drawn, seeded_generator, level_of, sign_of}
 use Rattle.sg_model.specs.declared.refusal.Refusal.{Refusal}
 use Rattle.sg_model.specs.declared.refusal.Refusal.TheVariants.{TooManyBonds, UnknownLaw}

@@ -2,7 +2,7 @@
 -- checker finds of one.
 use Rattle.std.specs.Prelude.{◌≡◌, ◌⊎◌, ℕ, ℤ, pos, ◌+◌, ◌*◌, ◌<◌, ◌==◌, not, if◌then◌else◌, Option, Some, find, List, [], length, map, slice_index_or}
 use Rattle.std.specs.List.{range_with_len}
-use Rattle.sg_limits.specs.Limits.{bond_limit, spin_limit}
+use Rattle.sg_base.specs.Limits.{bond_limit, spin_limit}
 use Rattle.sg_draft.specs.Limits.{large_limits}
 use Rattle.sg_model.specs.Ising.{Ising}
 use Rattle.sg_model.specs.Faults.{OrNoMemory}

@@ -1,6 +1,6 @@
 -- Lattices by numbers: which numbers give one, what is wrong with others, and the tables by which one is a graph.
 use Rattle.std.specs.Prelude.{◌≡◌, ℕ, ℤ, ◌≤◌, min, ◌==◌, not, if◌then◌else◌, Option, Some, None, List, [], ◌∷◌, length, position}
-use Rattle.sg_limits.specs.Limits.{large_bond_limit, large_spin_limit}
+use Rattle.sg_base.specs.Limits.{large_bond_limit, large_spin_limit}
 use Rattle.sg_model.specs.Ising.{Ising, bond_count}
 use Rattle.sg_model.specs.Faults.{OrNoMemory}
 use Rattle.sg_model.specs.declared.refusal.Fault.{Fault}

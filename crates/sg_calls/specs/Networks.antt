@@ -2,7 +2,7 @@
 -- others.
 use Rattle.std.specs.Prelude.{◌≡◌, ◌⊎◌, ℕ, ℤ, pos, ◌+◌, ◌*◌, ◌-◌, ◌^◌, ◌≤◌, min, ◌==◌, ◌&&◌, Bool, not, nat_lt, int_le, if◌then◌else◌, Option, Some, None, option_map, find, List, [], ◌∷◌, length, map, slice_index_or}
 use Rattle.std.specs.List.{range_with_len}
-use Rattle.sg_limits.specs.Limits.{sum_limit}
+use Rattle.sg_base.specs.Limits.{sum_limit}
 use Rattle.sg_model.specs.Faults.{OrNoMemory}
 use Rattle.sg_model.specs.declared.refusal.Fault.{Fault}
 use Rattle.sg_model.specs.declared.refusal.Refusal.{Refusal}

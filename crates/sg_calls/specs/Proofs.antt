@@ -2,7 +2,7 @@
 -- is wrong with others.
 use Rattle.std.specs.Prelude.{◌≡◌, ℕ, ℤ, not, nat_lt, ◌==◌, ◌&&◌, if◌then◌else◌, List, [], ◌∷◌, length, map, position, Option, Some, None, unwrap_or}
 use Rattle.std.specs.List.{range_with_len}
-use Rattle.sg_limits.specs.Limits.{input_limit}
+use Rattle.sg_base.specs.Limits.{input_limit}
 use Rattle.sg_model.specs.declared.refusal.Refusal.{Refusal}
 use Rattle.sg_model.specs.declared.refusal.Refusal.TheVariants.{TooLong}
 use Rattle.sg_check.specs.declared.packing.Loop.{Loop}

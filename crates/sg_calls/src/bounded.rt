@@ -2,7 +2,7 @@
 // they go back.
 ghost use Rattle.std.specs.Prelude.{◌≡◌, ◌<◌, ◌≤◌, length, find, int_le, nat_lt, not, position, All, None, Some, IfErr, IfOk, OnOk};
 ghost use Rattle.std.specs.List.{range_with_len};
-ghost use Rattle.sg_limits.specs.Limits.{sum_limit};
+ghost use Rattle.sg_base.specs.Limits.{sum_limit};
 ghost use Rattle.sg_draft.specs.Limits.{large_limits};
 ghost use Rattle.sg_model.specs.Energy.{weight};
 ghost use Rattle.sg_model.specs.Ising.{bond_count};

@@ -4,8 +4,8 @@ ghost use Rattle.sg_model.specs.Faults.{OrNoMemory};
 ghost use Rattle.sg_draft.specs.Tests.{Refuses};
 ghost use Rattle.sg_calls.specs.Draws.{draws_by, draws_fault};
 
+use sg_base::LARGE_BOND_LIMIT;
 use sg_laws::{Alternate, Disorder, One, PlusMinus, Uniform};
-use sg_limits::LARGE_BOND_LIMIT;
 use sg_model::{Fault, Refusal};
 use std::alloc::{AllocError, Global};
 

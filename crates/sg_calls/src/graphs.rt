@@ -1,7 +1,7 @@
 // General graphs by numbers. No number is trusted: each is tested, and the first fault is named.
 ghost use Rattle.std.specs.Prelude.{◌≡◌, ◌*◌, ◌<◌, ◌≤◌, find, length, not, All, None, IfErr, IfOk, OnOk};
 ghost use Rattle.std.specs.List.{range_with_len};
-ghost use Rattle.sg_limits.specs.Limits.{large_bond_limit, large_spin_limit};
+ghost use Rattle.sg_base.specs.Limits.{large_bond_limit, large_spin_limit};
 ghost use Rattle.sg_draft.specs.Bonds.{IsAmong, is_among as is_among_spins, self_fault};
 ghost use Rattle.sg_draft.specs.Draft.{draft_fault, drafted};
 ghost use Rattle.sg_ground.specs.Nested.{FitsWeb};

@@ -1,6 +1,6 @@
 // Minimum T-joins of the graph of some numbers, as they cross to a caller, and the judge of what a caller states.
 ghost use Rattle.std.specs.Prelude.{◌≡◌, ◌<◌, ◌≤◌, ◌⊎◌, length, IfErr, IfOk};
-ghost use Rattle.sg_limits.specs.Limits.{forced_limit, table_limit};
+ghost use Rattle.sg_base.specs.Limits.{forced_limit, table_limit};
 ghost use Rattle.sg_model.specs.Faults.{OrNoMemory};
 ghost use Rattle.sg_draft.specs.Tests.{Refuses};
 ghost use Rattle.sg_graph.specs.Incidence.{list_at};
@@ -20,11 +20,10 @@ use super::networks::{GivenWeb, network_of};
 use super::tables::joined;
 use super::terminal_lists::{GivenLists, many_of};
 use super::unanswered::Unanswered;
+use sg_base::{Lists, Numbers, TABLE_LIMIT};
 use sg_cli::Status;
 use sg_graph::{EdgeList, Terminals, Web};
 use sg_graph_text::Network;
-use sg_limits::TABLE_LIMIT;
-use sg_list::{Lists, Numbers};
 use sg_model::Fault;
 use sg_nest::proves;
 use sg_tjoin::{Joiner, LeastJoin, Unproved, least_weight_within};

@@ -1,6 +1,6 @@
 // The judges of stated proofs: the numbers in, a verdict out.
 ghost use Rattle.std.specs.Prelude.{◌≡◌, ◌⊎◌, ◌≤◌, None, length, IfOk, IfErr};
-ghost use Rattle.sg_limits.specs.Limits.{input_limit};
+ghost use Rattle.sg_base.specs.Limits.{input_limit};
 ghost use Rattle.sg_model.specs.Energy.{IsGroundState};
 ghost use Rattle.sg_model.specs.Faults.{OrNoMemory};
 ghost use Rattle.sg_check.specs.Verdict.{IsVerdict};

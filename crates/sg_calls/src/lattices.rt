@@ -1,6 +1,6 @@
 // Lattices by numbers. No number is trusted: each is tested, and the first fault is named.
 ghost use Rattle.std.specs.Prelude.{◌≡◌, ◌≤◌, length, IfOk, IfErr};
-ghost use Rattle.sg_limits.specs.Limits.{large_spin_limit};
+ghost use Rattle.sg_base.specs.Limits.{large_spin_limit};
 ghost use Rattle.sg_model.specs.Ising.{bond_count as bonds_in};
 ghost use Rattle.sg_calls.specs.Lattices.{first_out as first_out_of, IsLattice, IsLatticeFault, kind_numbered};
 

@@ -1,6 +1,6 @@
 // Bounds of the costs of all bonds at once.
 ghost use Rattle.std.specs.Prelude.{◌≡◌, [], length, IfErr, IfOk};
-ghost use Rattle.sg_limits.specs.Limits.{table_limit};
+ghost use Rattle.sg_base.specs.Limits.{table_limit};
 ghost use Rattle.sg_draft.specs.Limits.{large_limits};
 ghost use Rattle.sg_bonds.specs.Weakened.{WeakenedTablesExceed};
 ghost use Rattle.sg_calls.specs.BondCosts.{BoundLists, DecidesBonds, IsBoundsFault, SaysBounds, bound_lists};
@@ -9,8 +9,8 @@ ghost use Rattle.sg_calls.specs.Graphs.{Finds, IsFitGraph, IsTooLarge, IsUnanswe
 use super::bounded::bounded_graph;
 use super::graphs::Given;
 use super::unanswered::Unanswered;
+use sg_base::TABLE_LIMIT;
 use sg_bonds::{Bound, bond_bounds};
-use sg_limits::TABLE_LIMIT;
 use std::alloc::Global;
 
 /// The narrowed bounds of the graph of these numbers.

@@ -1,7 +1,7 @@
 // Weighted graphs and terminals by numbers. No number is trusted: each is tested, and the first fault is named.
 ghost use Rattle.std.specs.Prelude.{◌≡◌, ◌*◌, ◌<◌, ◌≤◌, find, length, not, All, None, Some, IfErr, IfOk, OnOk};
 ghost use Rattle.std.specs.List.{range_with_len};
-ghost use Rattle.sg_limits.specs.Limits.{large_bond_limit, large_spin_limit, sum_limit};
+ghost use Rattle.sg_base.specs.Limits.{large_bond_limit, large_spin_limit, sum_limit};
 ghost use Rattle.sg_model.specs.Faults.{OrNoMemory};
 ghost use Rattle.sg_graph.specs.Walk.{IsConnectedWeb};
 ghost use Rattle.sg_graph.specs.Web.{IsEdge, total_weight};

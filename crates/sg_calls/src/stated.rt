@@ -1,6 +1,6 @@
 // What a caller states as a proof, by numbers. No number is trusted.
 ghost use Rattle.std.specs.Prelude.{◌≡◌, ◌≤◌, length, true, None, Some, IfOk, IfErr, OnOk};
-ghost use Rattle.sg_limits.specs.Limits.{input_limit};
+ghost use Rattle.sg_base.specs.Limits.{input_limit};
 ghost use Rattle.sg_model.specs.Spins.{IsUpOrDown};
 ghost use Rattle.sg_reader.specs.Result.{is_spin_value};
 ghost use Rattle.sg_draft.specs.Tests.{Refuses};
@@ -9,9 +9,9 @@ ghost use Rattle.sg_calls.specs.Crossing.{DividesEntries};
 ghost use Rattle.sg_model.specs.Faults.{OrNoMemory};
 
 use super::starts::{entries_at, wrong_start};
+use sg_base::INPUT_LIMIT;
 use sg_check::{Loop, Loops, ResultText};
 use sg_draft::{Member, bad_entry, check_entry};
-use sg_limits::INPUT_LIMIT;
 use sg_model::{BondList, Fault, Refusal, Spins};
 use std::alloc::{AllocError, Global};
 

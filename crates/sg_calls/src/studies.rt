@@ -8,7 +8,7 @@ ghost use Rattle.sg_calls.specs.Graphs.{Finds, IsFitFault, IsFitGraph, IsTooLarg
 ghost use Rattle.sg_calls.specs.Grounds.{IsExact, IsGround, IsNested, IsWallAtSeam};
 ghost use Rattle.sg_draft.specs.Limits.{large_limits, program_limits};
 ghost use Rattle.sg_ground.specs.Allowance.{TablesExceed};
-ghost use Rattle.sg_limits.specs.Limits.{table_limit};
+ghost use Rattle.sg_base.specs.Limits.{table_limit};
 ghost use Rattle.sg_wall.specs.Wall.{WallTablesExceed};
 
 use super::graphs::{Given, fit_graph};
@@ -16,10 +16,10 @@ use super::held::Held;
 use super::nests::{NestRows, rows_of_nest};
 use super::rows::{Rows, rows_of};
 use super::unanswered::Unanswered;
+use sg_base::TABLE_LIMIT;
 use sg_bonds::{CostList, clusters_within, costs};
 use sg_draft::Limits;
 use sg_ground::{Answer, NestedState, nested_state, solve_within};
-use sg_limits::TABLE_LIMIT;
 use sg_model::{ClusterList, Fault, Refusal};
 use sg_wall::{WallAnswer, wall_within};
 use std::alloc::Global;

@@ -6,8 +6,8 @@ ghost use Rattle.sg_calls.specs.Lattices.{AreTables, IsLattice, IsLatticeFault, 
 
 use super::held::Held;
 use super::lattices::lattice_of;
+use sg_base::{LARGE_BOND_LIMIT, LARGE_SPIN_LIMIT};
 use sg_draft::Limits;
-use sg_limits::{LARGE_BOND_LIMIT, LARGE_SPIN_LIMIT};
 use sg_model::{BondList, Bonds, Fault, Rotation};
 use std::alloc::{AllocError, Global};
 

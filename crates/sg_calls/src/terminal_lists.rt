@@ -1,6 +1,6 @@
 // Many lists of terminals by numbers, for one weighted graph.
 ghost use Rattle.std.specs.Prelude.{◌≡◌, ◌%◌, ◌<◌, ◌≤◌, ℕ, length, None, IfErr, IfOk};
-ghost use Rattle.sg_limits.specs.Limits.{large_spin_limit, sum_limit};
+ghost use Rattle.sg_base.specs.Limits.{large_spin_limit, sum_limit};
 ghost use Rattle.sg_model.specs.Faults.{OrNoMemory};
 ghost use Rattle.sg_draft.specs.Tests.{Refuses};
 ghost use Rattle.sg_graph.specs.Incidence.{list_at};
@@ -12,9 +12,9 @@ ghost use Rattle.sg_calls.specs.Networks.{GivesWeb, IsWebFault, list_count, list
 
 use super::networks::{GivenWeb, check_place, check_web, joined_web};
 use super::starts::{entries_at, wrong_start};
+use sg_base::Lists;
 use sg_graph::Web;
 use sg_graph_text::list_terminals;
-use sg_list::Lists;
 use sg_model::Fault;
 use std::alloc::Global;
 

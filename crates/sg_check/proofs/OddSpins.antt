@@ -5,10 +5,10 @@ use Rattle.std.specs.List.{list_any}
 use Rattle.std.proofs.lemmas.Bool.{cases_Bool, false≢true}
 use Rattle.std.proofs.lemmas.List.{ext_get_or, get_or-replicate}
 use Rattle.std.proofs.lemmas.List.Folds.{list_any_at}
-use Rattle.sg_sums.specs.Parity.{xor, odd, parity_by}
-use Rattle.sg_sums.specs.Sets.{is_marked}
-use Rattle.sg_sums.proofs.ParityLaws.{xor_assoc, xor_self, xor-false, odd_is, odd-count_by, even_from_mod, odd_from_mod, some_from_odd}
-use Rattle.sg_sums.proofs.OneMore.{parity_by_more}
+use Rattle.sg_base.specs.Parity.{xor, odd, parity_by}
+use Rattle.sg_base.specs.Sets.{is_marked}
+use Rattle.sg_base.proofs.ParityLaws.{xor_assoc, xor_self, xor-false, odd_is, odd-count_by, even_from_mod, odd_from_mod, some_from_odd}
+use Rattle.sg_base.proofs.OneMore.{parity_by_more}
 use Rattle.sg_model.specs.declared.bond.Bond.{Bond}
 use Rattle.sg_model.specs.Ising.{Ising, bond_at}
 use Rattle.sg_model.specs.Broken.{is_negative}

@@ -5,15 +5,15 @@ use Rattle.std.specs.Prelude.{unsigned_abs}
 use Rattle.std.proofs.lemmas.Int.{ints}
 use Rattle.std.proofs.lemmas.List.Recursion.{or_at}
 use Rattle.std.proofs.lemmas.Bool.{eq-eqb, ne_eqb, cases_eq}
-use Rattle.sg_sums.specs.Parity.{xor, parity_by}
-use Rattle.sg_sums.specs.Sums.{sum_below}
-use Rattle.sg_sums.specs.Sets.{holds}
-use Rattle.sg_sums.specs.Ends.{is_end}
-use Rattle.sg_sums.specs.Loads.{HasMarked}
-use Rattle.sg_sums.proofs.ParityLaws.{odd-count_by, even_from_mod, odd_from_mod, some_from_odd, parity_by-xor, parity_by-same}
-use Rattle.sg_sums.proofs.Handshake.{even_set_meets_cut_evenly}
-use Rattle.sg_sums.proofs.SumLaws.{sum_by_is_sum_below}
-use Rattle.sg_sums.proofs.Capacity.{weights_below_capacity}
+use Rattle.sg_base.specs.Parity.{xor, parity_by}
+use Rattle.sg_base.specs.Sums.{sum_below}
+use Rattle.sg_base.specs.Sets.{holds}
+use Rattle.sg_base.specs.Ends.{is_end}
+use Rattle.sg_base.specs.Loads.{HasMarked}
+use Rattle.sg_base.proofs.ParityLaws.{odd-count_by, even_from_mod, odd_from_mod, some_from_odd, parity_by-xor, parity_by-same}
+use Rattle.sg_base.proofs.Handshake.{even_set_meets_cut_evenly}
+use Rattle.sg_base.proofs.SumLaws.{sum_by_is_sum_below}
+use Rattle.sg_base.proofs.Capacity.{weights_below_capacity}
 use Rattle.sg_model.specs.Ising.{Ising, IsBond, bond_at, bond_count}
 use Rattle.sg_model.specs.WellFormed.{IsInstance}
 use Rattle.sg_model.specs.Spins.{IsAssignment, spin}

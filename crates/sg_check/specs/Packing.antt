@@ -1,6 +1,6 @@
 -- Packings of frustrated loops, and what they prove: weak duality for ground states.
 use Rattle.std.specs.Prelude.{◌≡◌, ℕ, ◌*◌, ◌<◌, ◌≤◌, if◌then◌else◌, ℤ, pos, ◌+ℤ◌, ◌≤ℤ◌, List, length, All, sum_by, unsigned_abs}
-use Rattle.sg_sums.specs.Sets.{holds}
+use Rattle.sg_base.specs.Sets.{holds}
 use Rattle.sg_model.specs.Energy.{energy, weight}
 use Rattle.sg_model.specs.Ising.{Ising, bond_at, bond_count}
 use Rattle.sg_model.specs.Spins.{IsAssignment}

@@ -13,7 +13,7 @@
 //! For the next engineer: `specs/Loop.antt`, `specs/Packing.antt` and `specs/Verdict.antt` say what is
 //! judged. `Checker::check` answers the verdict of that definition, and what a yes means is in its
 //! contract too; `packing_proves` is the law alone, for a caller that builds a proof and runs no
-//! check. The law's proof is `proofs/WeakDuality.antt`, on the lemmas of the crate `sg_sums`.
+//! check. The law's proof is `proofs/WeakDuality.antt`, on the lemmas of the crate `sg_base`.
 #![tactic(auto)]
 
 mod checker;

@@ -6,8 +6,8 @@ ghost use Rattle.sg_check.specs.Packing.{IsWithin, load, packed_weight};
 ghost use Rattle.sg_check.specs.Verdict.{HasShape, IsFirstFailure};
 
 use super::Loop;
+use sg_base::add_weight;
 use sg_model::Instance;
-use sg_sums::add_weight;
 
 // A bond and the weights of the loops through it.
 #[derive(Clone, Copy)]

@@ -7,8 +7,8 @@ ghost use Rattle.sg_check.specs.Verdict.{HasShape, IsFirstBadLoop, IsFirstFailur
 
 use super::Loop;
 use super::spins::{bond_of, least_odd_spin};
+use sg_base::{all_below, is_rising};
 use sg_model::Instance;
-use sg_sums::{all_below, is_rising};
 
 // A loop and the least spin at which an odd number of its bonds end.
 #[derive(Clone, Copy)]

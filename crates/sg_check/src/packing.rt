@@ -1,4 +1,4 @@
-use sg_list::Records;
+use sg_base::Records;
 use sg_model::{BondList, Spins};
 
 /// A loop of bonds and its weight `y`, as a proof states them. Nothing is known of either.

@@ -3,14 +3,14 @@
 
 ghost use Rattle.std.specs.Prelude.{◌≡◌, ℕ, true, false, ◌<◌, ◌≤◌, ◌⊎◌, length, replicate, All, IfNone, IfSome, IsSomeAnd};
 ghost use Rattle.std.specs.List.{list_any};
-ghost use Rattle.sg_sums.specs.Parity.{xor, parity_by};
-ghost use Rattle.sg_sums.specs.Sets.{is_marked};
+ghost use Rattle.sg_base.specs.Parity.{xor, parity_by};
+ghost use Rattle.sg_base.specs.Sets.{is_marked};
 ghost use Rattle.sg_model.specs.Ising.{IsBond, bond_at, bond_count};
 ghost use Rattle.sg_check.specs.Loop.{is_end_of, IsEven, IsEvenAt};
 ghost use Rattle.sg_check.specs.Verdict.{IsFirstFailure};
 
+use sg_base::flip;
 use sg_model::{Bond, Instance};
-use sg_sums::flip;
 
 // Bond `k` of the instance.
 pub fn bond_of(inst: &Instance, k: u32) -> Bond

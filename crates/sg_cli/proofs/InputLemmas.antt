@@ -1,6 +1,6 @@
 -- From the bytes that were read to what is answered to the source.
 use Rattle.std.proofs.Common.{ℕ, ◌<◌, List, length, Option, None, Some, arith}
-use Rattle.sg_limits.specs.Limits.{input_limit}
+use Rattle.sg_base.specs.Limits.{input_limit}
 use Rattle.sg_io.specs.Devices.{AgreesWith}
 use Rattle.sg_io.specs.Reading.{Empties, IsTooLong}
 use Rattle.sg_io.specs.declared.reading.ReadEnd.TheVariants as ends

@@ -1,7 +1,7 @@
 -- Where a reply leaves nothing free: studies that find numbers alone, verdicts, and commands that draw.
 use Rattle.std.proofs.Common.{◌≡◌, inl, inr, ℕ, Option, Some, List, [], ◌∷◌, length, map, refl, sym, ap, subst, ◌∙◌}
 use Rattle.std.proofs.lemmas.Bool.{cases_lt}
-use Rattle.sg_limits.specs.Limits.{input_limit}
+use Rattle.sg_base.specs.Limits.{input_limit}
 use Rattle.sg_model.specs.declared.refusal.Refusal.{Refusal}
 use Rattle.sg_model.specs.declared.refusal.Refusal.TheVariants.{NoSeam, TooLong}
 use Rattle.sg_model.specs.Ising.{Ising}

@@ -1,6 +1,6 @@
 -- From what a command answers to what the words answer, and what of it is settled by the input.
 use Rattle.std.proofs.Common.{◌≡◌, ◌≤◌, ℕ, Option, Some, List, length, Result, Ok, Err, IfOk, sym, subst}
-use Rattle.sg_limits.specs.Limits.{input_limit}
+use Rattle.sg_base.specs.Limits.{input_limit}
 use Rattle.sg_model.specs.declared.refusal.Refusal.{Refusal}
 use Rattle.sg_model.specs.Ising.{Ising}
 use Rattle.sg_input.specs.Input.{GivesFit, RefusesText}

@@ -1,6 +1,6 @@
 -- What a run owes, besides its status: the promises of the top call.
 use Rattle.std.specs.Prelude.{◌≡◌, ℕ, ◌+◌, ◌<◌, ◌≤◌, Bool, Option, None, Some, List, [], length, drop}
-use Rattle.sg_limits.specs.Limits.{input_limit}
+use Rattle.sg_base.specs.Limits.{input_limit}
 use Rattle.sg_io.specs.Devices.{Grows, AgreesWith, next_count}
 use Rattle.sg_io.specs.Reading.{DropsAtMost}
 use Rattle.sg_io.specs.Writing.{GrowsByPrefix}

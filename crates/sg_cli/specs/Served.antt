@@ -1,7 +1,7 @@
 -- What is answered: the status and the whole text that belong to the words, the laws and the bytes.
 use Rattle.std.specs.Prelude.{◌≡◌, ◌≢◌, ◌<◌, ◌≤◌, ◌-ℤ◌, ◌*ℤ◌, ℕ, ℤ, pos, Bool, true, false}
 use Rattle.std.specs.Prelude.{Option, Some, None, List, [], ◌∷◌, length, map, codes}
-use Rattle.sg_limits.specs.Limits.{input_limit}
+use Rattle.sg_base.specs.Limits.{input_limit}
 use Rattle.sg_model.specs.declared.refusal.Refusal.{Refusal}
 use Rattle.sg_model.specs.declared.refusal.Refusal.TheVariants.{TooLong, NoSeam}
 use Rattle.sg_model.specs.Ising.{Ising, bond_count}

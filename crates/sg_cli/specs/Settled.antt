@@ -1,7 +1,7 @@
 -- What a reader asks first: what is answered to an input that gives what the command takes, and what to one that is
 -- refused. Each input gives one thing at most or is refused by one refusal at most, and never both.
 use Rattle.std.specs.Prelude.{◌≡◌, ◌≢◌, ◌<◌, ◌≤◌, ℕ, Option, List, [], length, ⊤}
-use Rattle.sg_limits.specs.Limits.{input_limit}
+use Rattle.sg_base.specs.Limits.{input_limit}
 use Rattle.sg_model.specs.declared.refusal.Refusal.{Refusal}
 use Rattle.sg_model.specs.declared.refusal.Refusal.TheVariants.{TooLong}
 use Rattle.sg_model.specs.Ising.{Ising}

@@ -1,6 +1,6 @@
 // The reply to words and an input: the claim of the project, from bytes to bytes.
 ghost use Rattle.std.specs.Prelude.{◌≡◌, ◌≤◌, ◌<◌, ℕ, length, Some, IfOk, map, string_bytes};
-ghost use Rattle.sg_limits.specs.Limits.{input_limit, text_limit};
+ghost use Rattle.sg_base.specs.Limits.{input_limit, text_limit};
 ghost use Rattle.sg_model.specs.Ising.{Ising};
 ghost use Rattle.sg_input.specs.Input.{GivesFit, RefusesText};
 ghost use Rattle.sg_words.specs.Command.{IsAllowed, command_of};
@@ -14,9 +14,9 @@ ghost use Rattle.sg_cli.specs.Settled.{CanBeStudied, SettlesInput};
 use super::check::check_reply;
 use super::graph::graph_reply;
 use super::study::study_reply;
+use sg_base::INPUT_LIMIT;
 use sg_draws::draw_reply;
 use sg_laws::{Alternate, Disorder, One, PlusMinus, Uniform};
-use sg_limits::INPUT_LIMIT;
 use sg_model::Refusal;
 use sg_report::{NoMemory, Reply, Status, refuse};
 use sg_words::{Command, Reading, law_word, parse_command};

@@ -1,7 +1,7 @@
 // What `check` answers: the verdict on a proof. No planar instance is made, so a proof is judged on
 // every graph.
 ghost use Rattle.std.specs.Prelude.{◌≡◌, ◌<◌, length, IfOk};
-ghost use Rattle.sg_limits.specs.Limits.{text_limit};
+ghost use Rattle.sg_base.specs.Limits.{text_limit};
 ghost use Rattle.sg_report.specs.Exit.{IsReply};
 ghost use Rattle.sg_cli.specs.Served.{AnswersCheck, PrintsVerdict, status_by};
 

@@ -1,7 +1,7 @@
 // What `tjoin` and `postman` answer to a text: its first fault, or the answer to its graph. Their input
 // is never read as JSON.
 ghost use Rattle.std.specs.Prelude.{◌≡◌, ◌<◌, length, IfOk};
-ghost use Rattle.sg_limits.specs.Limits.{text_limit};
+ghost use Rattle.sg_base.specs.Limits.{text_limit};
 ghost use Rattle.sg_graph_text.specs.Network.{IsNetwork};
 ghost use Rattle.sg_cli.specs.Graphs.{AnswersTask, takes_terms};
 ghost use Rattle.sg_report.specs.Exit.{IsReply};

@@ -1,5 +1,5 @@
 ghost use Rattle.std.specs.Prelude.{◌≡◌, ◌≢◌, ◌⊎◌, ◌↔◌, ◌+◌, true, false, IsSome, IfOk, IfErr, OnOk, OnErr, map, string_bytes};
-ghost use Rattle.sg_limits.specs.Limits.{input_limit};
+ghost use Rattle.sg_base.specs.Limits.{input_limit};
 ghost use Rattle.sg_io.specs.Devices.{FaultShown, Grows};
 ghost use Rattle.sg_io.specs.Reading.{DropsAtMost};
 ghost use Rattle.sg_io.specs.Writing.{GrowsByPrefix};
@@ -8,10 +8,10 @@ ghost use Rattle.sg_report.specs.Exit.{IsReply};
 ghost use Rattle.sg_cli.specs.Promises.{AnswersInPart, AnswersSource, AnswersWhole, SourceAfter, reads, sink_faults, source_faults, stop_faults, TakesInput};
 
 use super::answering::input_reply;
+use sg_base::INPUT_LIMIT;
 use sg_draws::draw_reply;
 use sg_io::{ReadEnd, Sink, Source, WriteFault, put, read_all};
 use sg_laws::Disorder;
-use sg_limits::INPUT_LIMIT;
 use sg_model::Refusal;
 use sg_report::{NoMemory, Reply, Status, refuse};
 use sg_words::{Command, Reading, law_word, parse_command};

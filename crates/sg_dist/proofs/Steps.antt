@@ -6,8 +6,8 @@ use Rattle.std.proofs.lemmas.Bool.{cases_Bool, cases_eq, false≢true}
 use Rattle.std.proofs.lemmas.List.Elements.{All-cons, All-head, All-tail, All-weaker, Contains-get_or, Contains-push_cases}
 use Rattle.std.proofs.lemmas.List.Sorted.{All-permutation, Contains-permutation}
 use Rattle.std.proofs.lemmas.List.Sums.{sum_by-set}
-use Rattle.sg_sums.proofs.ParityLaws.{and-false}
-use Rattle.sg_sums.proofs.SumLaws.{sum_by-gain}
+use Rattle.sg_base.proofs.ParityLaws.{and-false}
+use Rattle.sg_base.proofs.SumLaws.{sum_by-gain}
 use Rattle.sg_graph.specs.declared.web.Edge.{Edge}
 use Rattle.sg_graph.specs.Web.{Graph, IsWeb, edge_at, edge_weight, total_weight, weight_at}
 use Rattle.sg_graph.specs.Walk.{IsDistance, Leads}

@@ -1,5 +1,5 @@
 -- How large an instance may be: as large as the program takes, or larger.
-use Rattle.sg_limits.specs.Limits.{bond_limit, large_bond_limit, large_spin_limit, spin_limit}
+use Rattle.sg_base.specs.Limits.{bond_limit, large_bond_limit, large_spin_limit, spin_limit}
 use Rattle.sg_draft.specs.declared.limits.Limits.{Limits}
 
 -- what the program takes

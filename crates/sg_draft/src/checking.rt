@@ -1,5 +1,5 @@
 ghost use Rattle.std.specs.Prelude.{◌≡◌, ◌<◌, ◌≤◌, ◌*◌, ◌^◌, None, Some, IfErr, IfOk, IfSome};
-ghost use Rattle.sg_limits.specs.Limits.{large_bond_limit, large_spin_limit};
+ghost use Rattle.sg_base.specs.Limits.{large_bond_limit, large_spin_limit};
 ghost use Rattle.sg_lattice.specs.Tables.{IsSize, bond_total};
 ghost use Rattle.sg_draft.specs.declared.read.Read.TheVariants.{Known as IsKnown};
 ghost use Rattle.sg_draft.specs.Draft.{general_draft_fault, lattice_draft_fault};

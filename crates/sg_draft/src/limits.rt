@@ -1,10 +1,10 @@
 // How large an instance may be: as large as the program takes, or larger where a call finds one least
 // energy or two.
 ghost use Rattle.std.specs.Prelude.{◌≡◌, ◌≤◌};
-ghost use Rattle.sg_limits.specs.Limits.{large_bond_limit, large_spin_limit};
+ghost use Rattle.sg_base.specs.Limits.{large_bond_limit, large_spin_limit};
 ghost use Rattle.sg_draft.specs.Limits.{large_limits, program_limits};
 
-use sg_limits::{BOND_LIMIT, LARGE_BOND_LIMIT, LARGE_SPIN_LIMIT, SPIN_LIMIT};
+use sg_base::{BOND_LIMIT, LARGE_BOND_LIMIT, LARGE_SPIN_LIMIT, SPIN_LIMIT};
 
 /// The most spins and the most bonds of an instance.
 #[derive(Clone, Copy)]

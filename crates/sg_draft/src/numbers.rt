@@ -1,5 +1,5 @@
 ghost use Rattle.std.specs.Prelude.{◌≡◌, ◌<◌, ◌≤◌, ◌*◌, ◌^◌, None, Some, IfErr, IfOk, IfSome, OnOk, is_some};
-ghost use Rattle.sg_limits.specs.Limits.{large_bond_limit, large_spin_limit};
+ghost use Rattle.sg_base.specs.Limits.{large_bond_limit, large_spin_limit};
 ghost use Rattle.sg_lattice.specs.Tables.{IsSize};
 ghost use Rattle.sg_draft.specs.Numbers.{bond_count_fault, coupling_count_fault, is_number_from as is_number_from_least, lattice_size_fault, many_spins_fault, spin_count_fault};
 

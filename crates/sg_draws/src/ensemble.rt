@@ -3,7 +3,7 @@ ghost use Rattle.std.specs.Prelude.{◌≤◌, IfOk};
 ghost use Rattle.sg_lattice.specs.declared.kind.Kind.TheVariants.{Cylinder};
 ghost use Rattle.sg_ensemble.specs.Samples.{IsCylinder};
 ghost use Rattle.sg_words.specs.Command.{IsAllowedSize};
-ghost use Rattle.sg_limits.specs.Limits.{sample_limit};
+ghost use Rattle.sg_base.specs.Limits.{sample_limit};
 ghost use Rattle.sg_report.specs.Exit.{IsReply};
 ghost use Rattle.sg_draws.specs.Drawn.{AnswersEnsemble, PrintsEnsemble};
 

@@ -5,7 +5,7 @@ ghost use Rattle.sg_planar.specs.Fit.{IsFit, IsUnfit};
 ghost use Rattle.sg_ensemble.specs.Widths.{AreWidths, IsWidth};
 ghost use Rattle.sg_report.specs.Ensembles.{widths_text as widths_bytes};
 ghost use Rattle.sg_words.specs.Command.{IsAllowedSize};
-ghost use Rattle.sg_limits.specs.Limits.{width_limit, sample_limit};
+ghost use Rattle.sg_base.specs.Limits.{width_limit, sample_limit};
 ghost use Rattle.sg_report.specs.Exit.{IsReply};
 ghost use Rattle.sg_draws.specs.Drawn.{AnswersWidths, AreFitWidths, IsWidthFault, drawn_lattice};
 ghost use Rattle.sg_report.specs.declared.status.Status.TheVariants.{Done as IsDone};

@@ -16,9 +16,9 @@ use Rattle.sg_faces.proofs.BareSpins.{faces_alone, one_face}
 use Rattle.sg_graph.specs.declared.web.Edge.{Edge}
 use Rattle.sg_graph.specs.Web.{Graph, IsWeb, IsEdge, edge_at, edge_count, weight_at, total_weight}
 use Rattle.sg_graph.specs.Walk.{Leads}
-use Rattle.sg_sums.proofs.SumLaws.{sum_by_is_sum_below}
+use Rattle.sg_base.proofs.SumLaws.{sum_by_is_sum_below}
 use Rattle.sg_dual.specs.Dual.{face_of, dual_edge, dual_web}
-use Rattle.sg_sums.proofs.Ranges.{sum_by-map_range}
+use Rattle.sg_base.proofs.Ranges.{sum_by-map_range}
 
 module _ (inst : Ising) (faces : Labelling) where
   -- the dual has an edge for each bond

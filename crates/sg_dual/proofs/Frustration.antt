@@ -7,12 +7,12 @@ use Rattle.sg_model.specs.Rotation.{dart_count}
 use Rattle.sg_faces.specs.Faces.{Labelling, IsFaceLabels}
 use Rattle.sg_faces.proofs.Traced.{label_below}
 use Rattle.sg_graph.specs.Join.{AreTerminals}
-use Rattle.sg_sums.specs.Parity.{odd, parity_by, parity_below}
-use Rattle.sg_sums.specs.Sets.{chosen_below, is_marked}
-use Rattle.sg_sums.proofs.ParityLaws.{even_mod, odd_test, odd-count_by, parity_below-same, parity_exchange, parity_below_pick}
-use Rattle.sg_sums.proofs.Choosing.{chosen_below_same}
-use Rattle.sg_sums.proofs.Ranges.{parity_by_range, parity_below_pairs}
-use Rattle.sg_sums.proofs.RisingLists.{chosen_below_low, chosen_below_rises}
+use Rattle.sg_base.specs.Parity.{odd, parity_by, parity_below}
+use Rattle.sg_base.specs.Sets.{chosen_below, is_marked}
+use Rattle.sg_base.proofs.ParityLaws.{even_mod, odd_test, odd-count_by, parity_below-same, parity_exchange, parity_below_pick}
+use Rattle.sg_base.proofs.Choosing.{chosen_below_same}
+use Rattle.sg_base.proofs.Ranges.{parity_by_range, parity_below_pairs}
+use Rattle.sg_base.proofs.RisingLists.{chosen_below_low, chosen_below_rises}
 use Rattle.sg_dual.specs.Dual.{face_of, dual_web, is_negative_bond, negative_sides, is_frustrated, frustrated_faces}
 
 module _ (inst : Ising) (faces : Labelling) where

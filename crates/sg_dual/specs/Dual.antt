@@ -7,7 +7,7 @@ use Rattle.sg_faces.specs.Faces.{Labelling}
 use Rattle.sg_faces.specs.Sides.{sides_on}
 use Rattle.sg_graph.specs.declared.web.Edge.{Edge}
 use Rattle.sg_graph.specs.Web.{Graph}
-use Rattle.sg_sums.specs.Sets.{chosen_below}
+use Rattle.sg_base.specs.Sets.{chosen_below}
 
 -- the face on the side of dart d
 abbrev pub face_of : Labelling → ℕ → ℕ

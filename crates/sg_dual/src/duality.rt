@@ -7,14 +7,14 @@ ghost use Rattle.sg_model.specs.Connected.{IsConnected as IsConnectedInstance};
 ghost use Rattle.sg_faces.specs.Faces.{IsFaceLabels};
 ghost use Rattle.sg_graph.specs.Join.{AreTerminals};
 ghost use Rattle.sg_graph.specs.Walk.{IsConnectedWeb};
-ghost use Rattle.sg_sums.specs.Sets.{is_marked};
+ghost use Rattle.sg_base.specs.Sets.{is_marked};
 ghost use Rattle.sg_dual.specs.Dual.{dual_edge, dual_web, is_frustrated, frustrated_faces};
 
 use super::NoMemory;
+use sg_base::places;
 use sg_faces::Faces;
 use sg_graph::{Edge, Edges, Terminals, Web};
 use sg_model::{Bond, Instance};
-use sg_sums::places;
 use std::alloc::Global;
 
 /// The dual of an instance and its frustrated faces, in time linear in the bonds.

@@ -1,6 +1,6 @@
 -- Samples of a cylinder with couplings that are drawn, and the energies of their domain walls.
 use Rattle.std.specs.Prelude.{◌≡◌, ℕ, ◌*◌, ◌<◌, ◌≤◌, ℤ, pos, ◌+ℤ◌, ◌*ℤ◌, List, length, take, drop, fold, slice_index_or}
-use Rattle.sg_limits.specs.Limits.{spin_limit}
+use Rattle.sg_base.specs.Limits.{spin_limit}
 use Rattle.sg_model.specs.Ising.{Ising}
 use Rattle.sg_model.specs.WellFormed.{IsInstance}
 use Rattle.sg_laws.specs.Stream.{Draws}

@@ -1,13 +1,13 @@
 ghost use Rattle.std.specs.Prelude.{◌≡◌, ◌≤◌, ◌-◌, ◌*◌, ℕ, IfOk, OnErr, OnOk};
 ghost use Rattle.sg_laws.specs.Stream.{Draws};
-ghost use Rattle.sg_limits.specs.Limits.{sample_limit, spin_limit, width_limit};
+ghost use Rattle.sg_base.specs.Limits.{sample_limit, spin_limit, width_limit};
 ghost use Rattle.sg_ensemble.specs.Samples.{DrawsSamples, IsCylinder, IsSpherical, IsStudied, draw_count};
 ghost use Rattle.sg_ensemble.specs.Widths.{AreWidths, IsWidth, StopsAtWidth};
 
 use super::NoMemory;
 use super::samples::{EnsembleAnswer, ensemble, ensemble_on};
+use sg_base::Numbers;
 use sg_laws::{Disorder, start};
-use sg_list::Numbers;
 use sg_planar::Planar;
 use std::alloc::Global;
 

@@ -22,7 +22,7 @@ mod sums;
 
 pub use by_width::{Width, WidthList, width_on, widths};
 pub use samples::{EnsembleAnswer, ensemble, ensemble_on};
-use sg_list::Numbers;
+use sg_base::Numbers;
 use std::alloc::AllocError;
 
 /// The allocator had no memory left.

@@ -1,6 +1,6 @@
 ghost use Rattle.std.specs.Prelude.{◌≡◌, ◌≤◌, ◌*◌, ◌^◌, ℕ, All, IfOk, OnOk, unsigned_abs};
 ghost use Rattle.sg_laws.specs.Stream.{Draws};
-ghost use Rattle.sg_limits.specs.Limits.{sample_limit};
+ghost use Rattle.sg_base.specs.Limits.{sample_limit};
 ghost use Rattle.sg_ensemble.specs.Samples.{AreWalls, DrawsSamples, IsCylinder, IsSpherical, IsStudied, draw_count, int_sum, square_sum};
 
 use super::drawing::{drawing_of, know_counts, next_sample, seam_wall};

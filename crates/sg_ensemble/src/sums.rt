@@ -1,6 +1,6 @@
 // The sum of wall energies, and the sum of their squares.
 ghost use Rattle.std.specs.Prelude.{◌≡◌, ◌≤◌, ◌*◌, ◌^◌, ◌*ℤ◌, length, All, unsigned_abs};
-ghost use Rattle.sg_limits.specs.Limits.{sample_limit};
+ghost use Rattle.sg_base.specs.Limits.{sample_limit};
 ghost use Rattle.sg_ensemble.specs.Samples.{int_sum, square_sum};
 
 /// The sum of at most 1000 wall energies.

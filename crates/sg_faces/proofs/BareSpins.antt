@@ -6,10 +6,10 @@ use Rattle.std.proofs.lemmas.List.Folds.{list_all_at}
 use Rattle.std.proofs.lemmas.List.Sums.{list_all-from_AllPass, count_by-le-length}
 use Rattle.std.proofs.lemmas.List.Elements.{All-from_get_or}
 use Rattle.std.proofs.lemmas.List.FromFn.{length-range_with_len}
-use Rattle.sg_sums.proofs.DealtSums.{sum_by_range}
-use Rattle.sg_sums.proofs.ListLaws.{sum_by-zero}
-use Rattle.sg_sums.proofs.SumLaws.{sum_below-same}
-use Rattle.sg_sums.proofs.Tallies.{sum_below_ones}
+use Rattle.sg_base.proofs.DealtSums.{sum_by_range}
+use Rattle.sg_base.proofs.ListLaws.{sum_by-zero}
+use Rattle.sg_base.proofs.SumLaws.{sum_below-same}
+use Rattle.sg_base.proofs.Tallies.{sum_below_ones}
 use Rattle.sg_model.specs.declared.bond.Bond.{Bond}
 use Rattle.sg_model.specs.Ising.{Ising, IsBond, bond_at, bond_count}
 use Rattle.sg_model.specs.Rotation.{dart_count, darts_of, tail}

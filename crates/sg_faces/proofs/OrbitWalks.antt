@@ -5,8 +5,8 @@ use Rattle.std.proofs.lemmas.Bool.{cases_eq, cases_lt, false_from_ne_true}
 use Rattle.std.proofs.lemmas.List.{map-id, length-set, get_or-set_same, get_or-set_other}
 use Rattle.std.proofs.lemmas.List.FromFn.{length-range_with_len, sum_by-map-range_with_len_more}
 use Rattle.std.proofs.lemmas.List.Sums.{sum_by-set, count_by-le-length}
-use Rattle.sg_sums.proofs.DealtSums.{sum_by_range}
-use Rattle.sg_sums.proofs.Ranks.{rank, at_rank, rank_less}
+use Rattle.sg_base.proofs.DealtSums.{sum_by_range}
+use Rattle.sg_base.proofs.Ranks.{rank, at_rank, rank_less}
 use Rattle.sg_faces.specs.Orbits.{SameOrbit}
 use Rattle.sg_faces.specs.Tables.{table_value, IsMove, moves, is_least_of, least_before, unlabelled, HasLabel, Root, LabelsOrbits, IsOrbitLabels}
 use Rattle.sg_faces.proofs.Cycles.{least_means, orbit_symmetric, orbit_transitive, steps_below, way_back}

@@ -4,7 +4,7 @@ use Rattle.std.proofs.lemmas.List.Elements.{All-from_get_or}
 use Rattle.std.proofs.lemmas.Bool.{cases_eq}
 use Rattle.sg_model.specs.Ising.{Ising}
 use Rattle.sg_model.specs.Rotation.{dart_count, darts_of, following, rev, tail}
-use Rattle.sg_sums.specs.Sets.{DifferByCount}
+use Rattle.sg_base.specs.Sets.{DifferByCount}
 use Rattle.sg_model.specs.WellFormed.{IsInstance}
 use Rattle.sg_faces.specs.Faces.{phi}
 use Rattle.sg_faces.specs.Tables.{HasPhi, IsPhiTable}

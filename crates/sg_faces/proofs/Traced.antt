@@ -3,7 +3,7 @@ use Rattle.std.proofs.Common.{◌≡◌, ℕ, zero, suc, ◌+◌, ◌<◌, ◌�
 use Rattle.std.specs.List.{range_with_len}
 use Rattle.std.proofs.lemmas.List.Sums.{count_by-le-length}
 use Rattle.std.proofs.lemmas.List.FromFn.{length-range_with_len, get_or-range_with_len}
-use Rattle.sg_sums.proofs.SumLaws.{sum_by-same}
+use Rattle.sg_base.proofs.SumLaws.{sum_by-same}
 use Rattle.sg_model.specs.Ising.{Ising}
 use Rattle.sg_model.specs.Rotation.{dart_count}
 use Rattle.sg_model.specs.WellFormed.{IsInstance}

@@ -1,6 +1,6 @@
 ghost use Rattle.std.specs.Prelude.{◌≡◌, ◌≢◌, ◌==◌, ℕ, ◌<◌, ◌≤◌, if◌then◌else◌, length, slice_index, All, IfOk};
 ghost use Rattle.sg_model.specs.Rotation.{following, rev};
-ghost use Rattle.sg_sums.specs.Sets.{DifferByCount};
+ghost use Rattle.sg_base.specs.Sets.{DifferByCount};
 ghost use Rattle.sg_model.specs.WellFormed.{IsInstance};
 ghost use Rattle.sg_faces.specs.Faces.{bare_count};
 ghost use Rattle.sg_faces.specs.Tables.{IsPhiTable};

@@ -3,13 +3,13 @@
 use Rattle.std.proofs.Common.{◌≡◌, ℕ, suc, ◌+◌, ◌*◌, ◌%◌, ◌<◌, ◌≤◌, Bool, true, false, cond, not, ◌&&◌, eqb, List, [], ◌∷◌, refl, sym, ◌∙◌, ap, arith, All, length, get_or, sum_by, count_by}
 use Rattle.std.proofs.lemmas.List.Elements.{All-head, All-tail}
 use Rattle.std.proofs.lemmas.List.Sums.{sum_by-cons, get_or-le-sum_by}
-use Rattle.sg_sums.specs.Parity.{xor, odd, parity_by}
-use Rattle.sg_sums.specs.Sets.{holds}
-use Rattle.sg_sums.specs.Ends.{degree_parity, EndsBelow, is_end}
-use Rattle.sg_sums.proofs.ParityLaws.{odd_from_mod, even_from_mod, odd-count_by, parity_below-same, some_from_odd}
-use Rattle.sg_sums.proofs.RisingLists.{holds-chosen_below, members_parity}
-use Rattle.sg_sums.proofs.Handshake.{handshake}
-use Rattle.sg_sums.proofs.SumLaws.{sum_by-le-all}
+use Rattle.sg_base.specs.Parity.{xor, odd, parity_by}
+use Rattle.sg_base.specs.Sets.{holds}
+use Rattle.sg_base.specs.Ends.{degree_parity, EndsBelow, is_end}
+use Rattle.sg_base.proofs.ParityLaws.{odd_from_mod, even_from_mod, odd-count_by, parity_below-same, some_from_odd}
+use Rattle.sg_base.proofs.RisingLists.{holds-chosen_below, members_parity}
+use Rattle.sg_base.proofs.Handshake.{handshake}
+use Rattle.sg_base.proofs.SumLaws.{sum_by-le-all}
 use Rattle.sg_graph.specs.Web.{Graph, IsEdge, edge_at, edge_count, edge_weight, ends_at, weight_of}
 use Rattle.sg_graph.specs.Join.{AreTerminals, IsJoin, IsLeastJoin}
 use Rattle.sg_graph.specs.declared.cut.Cut.{Cut}

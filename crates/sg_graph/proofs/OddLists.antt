@@ -4,12 +4,12 @@ use Rattle.std.proofs.Common.{ap₂, ◌≡◌, ℕ, zero, suc, ◌+◌, ◌<◌
 use Rattle.std.proofs.lemmas.Bool.{eqb-true}
 use Rattle.std.proofs.lemmas.List.Elements.{All-head, All-tail}
 use Rattle.std.proofs.lemmas.List.Sums.{sum_by-append, sum_by-cons}
-use Rattle.sg_sums.specs.Parity.{xor, parity_by, parity_below}
-use Rattle.sg_sums.specs.Sets.{chosen_below}
-use Rattle.sg_sums.specs.Sums.{sum_below}
-use Rattle.sg_sums.proofs.Choosing.{chosen_below_more}
-use Rattle.sg_sums.proofs.ParityLaws.{parity_below-none, parity_below-same, parity_below-xor, parity_below_pick, parity_by-append, xor_comm}
-use Rattle.sg_sums.proofs.SumLaws.{sum_below-add, sum_below-le, sum_below-zero, sum_below_pick}
+use Rattle.sg_base.specs.Parity.{xor, parity_by, parity_below}
+use Rattle.sg_base.specs.Sets.{chosen_below}
+use Rattle.sg_base.specs.Sums.{sum_below}
+use Rattle.sg_base.proofs.Choosing.{chosen_below_more}
+use Rattle.sg_base.proofs.ParityLaws.{parity_below-none, parity_below-same, parity_below-xor, parity_below_pick, parity_by-append, xor_comm}
+use Rattle.sg_base.proofs.SumLaws.{sum_below-add, sum_below-le, sum_below-zero, sum_below_pick}
 
 -- whether the number stands in the list an odd number of times
 abbrev pub is_odd_in : List ℕ → ℕ → Bool

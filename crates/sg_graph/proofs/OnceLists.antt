@@ -6,10 +6,10 @@ use Rattle.std.proofs.lemmas.Bool.{false_from_ne_true}
 use Rattle.std.proofs.lemmas.List.Elements.{All-head, All-tail}
 use Rattle.std.proofs.lemmas.List.Kept.{AllPairs-from_increasing}
 use Rattle.std.proofs.lemmas.List.Sums.{sum_by-cons}
-use Rattle.sg_sums.specs.Sets.{holds}
-use Rattle.sg_sums.specs.Sums.{sum_below}
-use Rattle.sg_sums.proofs.RisingLists.{Contains-holds}
-use Rattle.sg_sums.proofs.SumLaws.{sum_below-gain, sum_below-le, sum_by_is_sum_below}
+use Rattle.sg_base.specs.Sets.{holds}
+use Rattle.sg_base.specs.Sums.{sum_below}
+use Rattle.sg_base.proofs.RisingLists.{Contains-holds}
+use Rattle.sg_base.proofs.SumLaws.{sum_below-gain, sum_below-le, sum_by_is_sum_below}
 use Rattle.sg_graph.specs.Web.{Graph, edge_count, edge_weight, total_weight, weight_at, weight_of}
 
 once_rest : (x : ℕ) (xs : List ℕ) → AllPairs (λ e f. e ≢ f) (x ∷ xs) → AllPairs (λ e f. e ≢ f) xs

@@ -5,13 +5,13 @@ use Rattle.std.proofs.lemmas.Bool.{cases_eq, cases_lt, false≢true, true≢fals
 use Rattle.std.proofs.lemmas.List.{length-replicate, length-set, length_push, get_or-set_same, get_or-set_other, get_or_append_left, get_or_past, get_or_default}
 use Rattle.std.proofs.lemmas.List.Elements.{All-more, All-push, All-weaker, Contains-append_left, Contains-push}
 use Rattle.std.proofs.lemmas.List.Sums.{sum_by-set}
-use Rattle.sg_sums.proofs.MarkLaws.{none_free}
-use Rattle.sg_sums.specs.Sets.{holds, is_marked}
+use Rattle.sg_base.proofs.MarkLaws.{none_free}
+use Rattle.sg_base.specs.Sets.{holds, is_marked}
 use Rattle.sg_graph.specs.declared.web.Edge.{Edge}
 use Rattle.sg_graph.specs.Web.{Graph, IsWeb, edge_at}
 use Rattle.sg_graph.specs.Walk.{IsConnectedWeb, IsFirstUnreached, IsReached, IsWebWalk, Leads, other_end}
 use Rattle.sg_graph.specs.Incidence.{AreIncident, EndsAt, list_at}
-use Rattle.sg_sums.proofs.RisingLists.{All-holds}
+use Rattle.sg_base.proofs.RisingLists.{All-holds}
 use Rattle.sg_graph.specs.Search.{MarksReached, VisitsEdges, unmarked}
 use Rattle.sg_graph.proofs.Walks.{leads_other, other_only, walk-append, walk-one}
 use Rattle.sg_graph.proofs.Incidences.{edges_at_leads}

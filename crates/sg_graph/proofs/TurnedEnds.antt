@@ -1,9 +1,9 @@
 -- Marks that the ends of edges turn.
 use Rattle.std.proofs.Common.{◌≡◌, ◌∙◌, ap, eqb, get_or, take, ℕ, ◌+◌, ◌<◌, Bool, false, List, length}
-use Rattle.sg_sums.specs.Ends.{is_end}
-use Rattle.sg_sums.specs.Parity.{parity_by, xor}
-use Rattle.sg_sums.proofs.OneMore.{turned_more}
-use Rattle.sg_sums.proofs.ParityLaws.{xor-false}
+use Rattle.sg_base.specs.Ends.{is_end}
+use Rattle.sg_base.specs.Parity.{parity_by, xor}
+use Rattle.sg_base.proofs.OneMore.{turned_more}
+use Rattle.sg_base.proofs.ParityLaws.{xor-false}
 use Rattle.sg_graph.specs.declared.web.Edge.{Edge}
 use Rattle.sg_graph.specs.Web.{Graph, edge_at}
 

@@ -2,9 +2,9 @@
 use Rattle.std.proofs.lemmas.Grind.{common_steps}
 use Rattle.std.proofs.Common.{ap₂, ◌≡◌, ℕ, ◌<◌, Bool, eqb, List, [], ◌∷◌, sym, ◌∙◌, ap, arith, All}
 use Rattle.std.proofs.lemmas.List.Elements.{All-cons, All-nil}
-use Rattle.sg_sums.specs.Ends.{is_end}
-use Rattle.sg_sums.specs.Parity.{xor, parity_by}
-use Rattle.sg_sums.proofs.ParityLaws.{xor_comm, xor_self}
+use Rattle.sg_base.specs.Ends.{is_end}
+use Rattle.sg_base.specs.Parity.{xor, parity_by}
+use Rattle.sg_base.proofs.ParityLaws.{xor_comm, xor_self}
 use Rattle.sg_graph.specs.Web.{Graph, edge_at, edge_count}
 use Rattle.sg_graph.specs.Walk.{IsWebWalk, Leads}
 

@@ -1,7 +1,7 @@
 -- Joins of a set of terminals (Edmonds and Johnson 1973): edges of odd degree exactly at the terminals.
 use Rattle.std.specs.Prelude.{◌≡◌, ℕ, ◌%◌, ◌<◌, ◌≤◌, cond, List, All, sum_by}
 use Rattle.std.specs.List.Sorted.{IsStrictlyIncreasing}
-use Rattle.sg_sums.specs.Sets.{holds}
+use Rattle.sg_base.specs.Sets.{holds}
 use Rattle.sg_graph.specs.Web.{Graph, edge_count, ends_at, weight_of}
 
 -- a strictly rising list of nodes

@@ -1,8 +1,8 @@
 -- Odd cuts, and weights of them that pack: the dual of minimum T-joins.
 use Rattle.std.specs.Prelude.{◌≡◌, ℕ, ◌+◌, ◌*◌, ◌%◌, ◌<◌, ◌≤◌, ◌≤ℤ◌, pos, Bool, List, length, All, count_by, unsigned_abs}
-use Rattle.sg_sums.specs.Parity.{xor}
-use Rattle.sg_sums.specs.Sets.{holds, chosen_below}
-use Rattle.sg_sums.specs.Loads.{load_at}
+use Rattle.sg_base.specs.Parity.{xor}
+use Rattle.sg_base.specs.Sets.{holds, chosen_below}
+use Rattle.sg_base.specs.Loads.{load_at}
 use Rattle.sg_graph.specs.declared.cut.Cut.{Cut}
 use Rattle.sg_graph.specs.Web.{Graph, edge_at, edge_count, edge_weight}
 

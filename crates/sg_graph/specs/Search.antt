@@ -1,6 +1,6 @@
 -- A search from node 0: marks on the nodes found, and a list of them.
 use Rattle.std.specs.Prelude.{◌≡◌, ◌⊎◌, ◌↔◌, ℕ, ◌+◌, ◌<◌, ◌≤◌, Bool, true, cond, List, length, slice_index, sum_by, All, Contains}
-use Rattle.sg_sums.specs.Sets.{is_marked}
+use Rattle.sg_base.specs.Sets.{is_marked}
 use Rattle.sg_graph.specs.Web.{Graph, edge_at}
 use Rattle.sg_graph.specs.Walk.{IsReached, Leads, other_end}
 

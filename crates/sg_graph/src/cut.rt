@@ -1,5 +1,5 @@
 use super::EdgeList;
-use sg_list::Records;
+use sg_base::Records;
 
 /// One weighted cut: the edges that leave some set of nodes, and the weight `y` of the cut.
 #[derive(Drop)]

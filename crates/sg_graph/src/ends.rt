@@ -1,11 +1,11 @@
 ghost use Rattle.std.specs.Prelude.{◌≡◌, ℕ, ◌<◌, length, All};
-ghost use Rattle.sg_sums.specs.Ends.{is_end};
-ghost use Rattle.sg_sums.specs.Parity.{parity_by, xor};
-ghost use Rattle.sg_sums.specs.Sets.{is_marked};
+ghost use Rattle.sg_base.specs.Ends.{is_end};
+ghost use Rattle.sg_base.specs.Parity.{parity_by, xor};
+ghost use Rattle.sg_base.specs.Sets.{is_marked};
 ghost use Rattle.sg_graph.specs.Web.{edge_at, edge_count};
 
 use super::Web;
-use sg_sums::flip;
+use sg_base::flip;
 
 /// Turns the marks at both ends of each edge of the list, those of an edge to itself back again.
 ///

@@ -2,7 +2,7 @@ ghost use Rattle.std.specs.Prelude.{◌≡◌, ◌<◌, ◌≤◌, ◌≤ℤ◌,
 ghost use Rattle.sg_graph.specs.Web.{IsEdge, IsWeb, degree_of, edge_at, edge_count, ends_on, total_weight, weight_of, with_weight};
 ghost use Rattle.sg_graph.specs.Walk.{other_end};
 
-use sg_list::{Numbers, Records};
+use sg_base::{Numbers, Records};
 use std::marker::Model;
 
 /// An edge between the nodes `a` and `b`, which may be the same, of weight `w`.

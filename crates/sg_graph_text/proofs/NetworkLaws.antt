@@ -1,6 +1,6 @@
 -- Faults of a text that gives no connected graph, by the step that finds them.
 use Rattle.std.proofs.Common.{◌≡◌, ℕ, ◌≤◌, Bool, List, [], subst}
-use Rattle.sg_limits.specs.Limits.{sum_limit}
+use Rattle.sg_base.specs.Limits.{sum_limit}
 use Rattle.sg_model.specs.declared.refusal.Fault.{Fault}
 use Rattle.sg_model.specs.declared.refusal.Fault.TheVariants.{Refused, NoMemory}
 use Rattle.sg_graph.specs.Web.{Graph, total_weight}

@@ -1,7 +1,7 @@
 -- A text gives one connected graph at most or has one refusal at most, and never both.
 use Rattle.std.proofs.Common.{◌≡◌, inl, inr, ℕ, ◌≤◌, Bool, pos, List, [], sym, ap, subst, ◌∙◌, arith}
 use Rattle.std.proofs.lemmas.Bool.{cases_order}
-use Rattle.sg_limits.specs.Limits.{sum_limit}
+use Rattle.sg_base.specs.Limits.{sum_limit}
 use Rattle.sg_model.specs.declared.refusal.Refusal.{Refusal}
 use Rattle.sg_model.specs.declared.refusal.Refusal.TheVariants.{NotJoined, SumTooLarge}
 use Rattle.sg_model.specs.OneAnswer.{HasOneAnswer}

@@ -2,8 +2,8 @@
 -- give; the first failed check of a record, in the order of the records, refuses them.
 use Rattle.std.specs.Prelude.{◌≡◌, ℕ, ◌+◌, ◌%◌, ◌≤◌, ◌==◌, ◌&&◌, Bool, nat_lt, if◌then◌else◌, List, [], ◌∷◌, length, map, filter, find, drop, codes, All, slice_index, Option, Some, option_map, is_some, unwrap_or}
 use Rattle.std.specs.List.{range_with_len}
-use Rattle.sg_sums.specs.Sets.{chosen_below, holds}
-use Rattle.sg_limits.specs.Limits.{bond_limit, spin_limit}
+use Rattle.sg_base.specs.Sets.{chosen_below, holds}
+use Rattle.sg_base.specs.Limits.{bond_limit, spin_limit}
 use Rattle.sg_model.specs.declared.refusal.Refusal.{Refusal}
 use Rattle.sg_model.specs.declared.refusal.Refusal.TheVariants.{BadTerminal, OddTerminals, UnknownKind}
 use Rattle.sg_model.specs.Misplaced.{is_misplaced}

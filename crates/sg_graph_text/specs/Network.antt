@@ -1,6 +1,6 @@
 -- Which connected graph a text gives, or why it is refused: the first test that fails.
 use Rattle.std.specs.Prelude.{◌≡◌, ℕ, ◌<◌, ◌≤◌, ◌%◌, Bool, pos, List, [], length}
-use Rattle.sg_limits.specs.Limits.{sum_limit}
+use Rattle.sg_base.specs.Limits.{sum_limit}
 use Rattle.sg_model.specs.declared.refusal.Refusal.{Refusal}
 use Rattle.sg_model.specs.declared.refusal.Refusal.TheVariants.{NotJoined, SumTooLarge}
 use Rattle.sg_graph.specs.Join.{AreTerminals}

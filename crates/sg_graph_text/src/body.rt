@@ -1,5 +1,5 @@
 ghost use Rattle.std.specs.Prelude.{◌≡◌, ◌<◌, ◌≤◌, [], List, true, None, Some, length, IfOk, IfErr, OnOk};
-ghost use Rattle.sg_limits.specs.Limits.{bond_limit, spin_limit};
+ghost use Rattle.sg_base.specs.Limits.{bond_limit, spin_limit};
 ghost use Rattle.sg_graph.specs.Web.{IsEdge};
 ghost use Rattle.sg_reader.specs.Body.{says_end};
 ghost use Rattle.sg_reader.specs.Ended.{RefusesRecords, StatesToEnd, Fails, HoldsSome, RefusesNext, TakesNext};

@@ -1,6 +1,6 @@
 ghost use Rattle.std.specs.Prelude.{◌≡◌, ◌<◌, ◌≤◌, [], All, length, pos, IfOk, IfErr, OnOk};
 ghost use Rattle.std.specs.List.{sum_by};
-ghost use Rattle.sg_limits.specs.Limits.{large_bond_limit, large_spin_limit, sum_limit, text_limit};
+ghost use Rattle.sg_base.specs.Limits.{large_bond_limit, large_spin_limit, sum_limit, text_limit};
 ghost use Rattle.sg_graph.specs.Walk.{IsConnectedWeb};
 ghost use Rattle.sg_graph.specs.Web.{IsEdge, total_weight, weight_at};
 ghost use Rattle.sg_graph_text.specs.Graph.{IsGraphText, ReadsGraph, RefusesGraph};
@@ -11,8 +11,8 @@ ghost use Rattle.sg_model.specs.Faults.{OrNoMemory};
 
 use super::graph::GraphText;
 use super::read::read_graph;
+use sg_base::SUM_LIMIT;
 use sg_graph::{Edge, Edges, Terminals, Web, first_unreached};
-use sg_limits::SUM_LIMIT;
 use sg_model::{Fault, Refusal};
 use sg_reader::{Rows, alone};
 use std::alloc::Global;

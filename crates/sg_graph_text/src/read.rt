@@ -1,5 +1,5 @@
 ghost use Rattle.std.specs.Prelude.{◌≡◌, ◌≤◌, ◌∷◌, None, IfOk, IfErr};
-ghost use Rattle.sg_limits.specs.Limits.{spin_limit};
+ghost use Rattle.sg_base.specs.Limits.{spin_limit};
 ghost use Rattle.sg_reader.specs.Ended.{Fails};
 ghost use Rattle.sg_reader.specs.Tests.{size_in};
 ghost use Rattle.sg_graph_text.specs.Graph.{IsGraphText, size_fault, ReadsGraph, RefusesGraph};

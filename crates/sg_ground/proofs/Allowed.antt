@@ -1,6 +1,6 @@
 -- Tables that take more than is allowed: of the whole, of a part, and how much none take.
 use Rattle.std.proofs.Common.{inl, inr, refl, ◌≡◌, ℕ, ◌+◌, ◌*◌, ◌-◌, ◌<◌, ◌≤◌, ◌^◌, List, length, get_or, ap, arith}
-use Rattle.sg_limits.specs.Limits.{bond_limit, spin_limit, table_limit}
+use Rattle.sg_base.specs.Limits.{bond_limit, spin_limit, table_limit}
 use Rattle.sg_model.specs.Ising.{Ising, bond_count}
 use Rattle.sg_model.specs.WellFormed.{IsInstance}
 use Rattle.sg_planar.specs.Fit.{Embedding, IsPlanar}

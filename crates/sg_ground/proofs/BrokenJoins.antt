@@ -5,11 +5,11 @@ use Rattle.std.specs.List.{range_with_len}
 use Rattle.std.proofs.lemmas.Int.{ints}
 use Rattle.std.proofs.lemmas.List.{get_or-map, length-map}
 use Rattle.std.proofs.lemmas.List.FromFn.{get_or-range_with_len, length-range_with_len}
-use Rattle.sg_sums.specs.Parity.{xor, odd, parity_below}
-use Rattle.sg_sums.specs.Sets.{chosen_below, holds, is_marked}
-use Rattle.sg_sums.specs.Ends.{is_end}
-use Rattle.sg_sums.proofs.ParityLaws.{odd_is, odd_test, parity_below-same, parity_below-xor, parity_by-same, xor-false}
-use Rattle.sg_sums.proofs.RisingLists.{chosen_below_low, chosen_below_rises, holds-chosen_below}
+use Rattle.sg_base.specs.Parity.{xor, odd, parity_below}
+use Rattle.sg_base.specs.Sets.{chosen_below, holds, is_marked}
+use Rattle.sg_base.specs.Ends.{is_end}
+use Rattle.sg_base.proofs.ParityLaws.{odd_is, odd_test, parity_below-same, parity_below-xor, parity_by-same, xor-false}
+use Rattle.sg_base.proofs.RisingLists.{chosen_below_low, chosen_below_rises, holds-chosen_below}
 use Rattle.sg_model.specs.Ising.{Ising, bond_at, bond_count}
 use Rattle.sg_model.specs.WellFormed.{IsInstance}
 use Rattle.sg_model.specs.Energy.{IsGroundState, IsLeastEnergy, energy, weight}

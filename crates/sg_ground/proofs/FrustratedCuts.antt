@@ -3,13 +3,13 @@
 use Rattle.std.proofs.Common.{ap₂, ◌≡◌, ℕ, ◌+◌, ◌*◌, ◌%◌, ◌<◌, pos, Bool, true, false, ◌&&◌, eqb, cond, List, sym, ◌∙◌, ap, subst, arith, length, count_by, All}
 use Rattle.std.specs.List.{range_with_len}
 use Rattle.std.specs.List.Sorted.{IsStrictlyIncreasing}
-use Rattle.sg_sums.specs.Parity.{xor, odd, parity_below}
-use Rattle.sg_sums.specs.Sets.{holds}
-use Rattle.sg_sums.specs.Ends.{is_end, degree_parity, EndsBelow}
-use Rattle.sg_sums.proofs.ParityLaws.{odd_is, odd-count_by, odd_from_mod, parity_below-same, some_from_odd}
-use Rattle.sg_sums.proofs.Handshake.{handshake}
-use Rattle.sg_sums.proofs.Recounting.{All_range}
-use Rattle.sg_sums.proofs.RisingLists.{chosen_below_low, chosen_below_rises, holds-chosen_below, members_parity}
+use Rattle.sg_base.specs.Parity.{xor, odd, parity_below}
+use Rattle.sg_base.specs.Sets.{holds}
+use Rattle.sg_base.specs.Ends.{is_end, degree_parity, EndsBelow}
+use Rattle.sg_base.proofs.ParityLaws.{odd_is, odd-count_by, odd_from_mod, parity_below-same, some_from_odd}
+use Rattle.sg_base.proofs.Handshake.{handshake}
+use Rattle.sg_base.proofs.Recounting.{All_range}
+use Rattle.sg_base.proofs.RisingLists.{chosen_below_low, chosen_below_rises, holds-chosen_below, members_parity}
 use Rattle.sg_model.specs.Ising.{Ising, IsBond, bond_at, bond_count}
 use Rattle.sg_model.specs.Rotation.{dart_count, next, tail}
 use Rattle.sg_model.specs.WellFormed.{IsInstance}
@@ -21,8 +21,8 @@ use Rattle.sg_graph.specs.OddCut.{crosses, IsOddCut}
 use Rattle.sg_dual.specs.Dual.{dual_web, face_of, frustrated_faces, is_frustrated, is_negative_bond, negative_sides}
 use Rattle.sg_faces.proofs.Traced.{label_below}
 use Rattle.sg_dual.proofs.DualWebs.{dual_edge_at, dual_edge_count}
-use Rattle.sg_sums.proofs.ParityLaws.{odd_test}
-use Rattle.sg_sums.proofs.Ranges.{parity_by_range}
+use Rattle.sg_base.proofs.ParityLaws.{odd_test}
+use Rattle.sg_base.proofs.Ranges.{parity_by_range}
 use Rattle.sg_check.specs.Loop.{IsFrustratedLoop, degree, is_end_of, negative_count}
 use Rattle.sg_check.proofs.WeakDuality.{one_end}
 use Rattle.sg_planar.proofs.Embeddings.{cuts_meet_evenly}

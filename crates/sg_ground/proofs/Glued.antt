@@ -1,6 +1,6 @@
 -- What some parts give, put together in the whole.
 use Rattle.std.specs.Prelude.{◌≡◌, ℕ, ◌*◌, ◌≤◌, ℤ, pos, ◌+ℤ◌, ◌-ℤ◌, ◌≤ℤ◌, Bool, List, cond, length, sum_by, All, IsTrue, unsigned_abs}
-use Rattle.sg_sums.specs.Sets.{holds}
+use Rattle.sg_base.specs.Sets.{holds}
 use Rattle.sg_model.specs.Ising.{Ising, bond_at}
 use Rattle.sg_model.specs.Connected.{LeastsUp}
 use Rattle.sg_model.specs.Broken.{is_broken}

@@ -6,12 +6,12 @@ use Rattle.std.proofs.lemmas.Int.{fits_signed_from_abs, ints}
 use Rattle.std.proofs.lemmas.List.{length-map}
 use Rattle.std.proofs.lemmas.List.Elements.{All-append, All-from_get_or, All-map, All-take, All-weaker}
 use Rattle.std.proofs.lemmas.List.Sums.{get_or-le-sum_by, sum_by-append, sum_by-cons, sum_by-take-le, sum_by_more}
-use Rattle.sg_limits.specs.Limits.{forced_limit}
-use Rattle.sg_sums.specs.Sets.{holds}
-use Rattle.sg_sums.proofs.ListLaws.{cases_in}
-use Rattle.sg_sums.proofs.OneMore.{rising_order}
-use Rattle.sg_sums.proofs.SumLaws.{sum_by-same, sum_by_is_sum_below}
-use Rattle.sg_sums.proofs.Tallies.{sum_below_ones}
+use Rattle.sg_base.specs.Limits.{forced_limit}
+use Rattle.sg_base.specs.Sets.{holds}
+use Rattle.sg_base.proofs.ListLaws.{cases_in}
+use Rattle.sg_base.proofs.OneMore.{rising_order}
+use Rattle.sg_base.proofs.SumLaws.{sum_by-same, sum_by_is_sum_below}
+use Rattle.sg_base.proofs.Tallies.{sum_below_ones}
 use Rattle.sg_model.specs.declared.bond.Bond.{Bond}
 use Rattle.sg_model.specs.Ising.{Ising, IsBond, bond_at, bond_count}
 use Rattle.sg_model.specs.WellFormed.{IsInstance}

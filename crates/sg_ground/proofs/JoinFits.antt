@@ -1,13 +1,13 @@
 -- A join of the frustrated faces has on each face as many bonds as negative ones, up to an even number; and where just its bonds
 -- are broken, the broken bonds weigh what it weighs.
 use Rattle.std.proofs.Common.{◌≡◌, ℕ, ◌%◌, ◌<◌, pos, Bool, ◌&&◌, cond, List, sym, ◌∙◌, ap, subst, arith, get_or, sum_by, All, ℤ, unsigned_abs}
-use Rattle.sg_sums.specs.Parity.{odd}
-use Rattle.sg_sums.specs.Sets.{holds}
-use Rattle.sg_sums.specs.Ends.{is_end}
-use Rattle.sg_sums.proofs.MemberSums.{members_sum}
-use Rattle.sg_sums.proofs.ParityLaws.{odd_is, parity_below-same, parity_by-same}
-use Rattle.sg_sums.proofs.RisingLists.{holds-chosen_below, members_parity}
-use Rattle.sg_sums.proofs.SumLaws.{sum_below-same, sum_by_is_sum_below}
+use Rattle.sg_base.specs.Parity.{odd}
+use Rattle.sg_base.specs.Sets.{holds}
+use Rattle.sg_base.specs.Ends.{is_end}
+use Rattle.sg_base.proofs.MemberSums.{members_sum}
+use Rattle.sg_base.proofs.ParityLaws.{odd_is, parity_below-same, parity_by-same}
+use Rattle.sg_base.proofs.RisingLists.{holds-chosen_below, members_parity}
+use Rattle.sg_base.proofs.SumLaws.{sum_below-same, sum_by_is_sum_below}
 use Rattle.sg_model.specs.Ising.{Ising, bond_at, bond_count}
 use Rattle.sg_model.proofs.BrokenEnergy.{broken_weight}
 use Rattle.sg_faces.specs.Faces.{Labelling}
@@ -18,7 +18,7 @@ use Rattle.sg_graph.specs.Join.{IsJoin}
 use Rattle.sg_graph.proofs.Joins.{ends_parity, odd_from_cond}
 use Rattle.sg_dual.specs.Dual.{dual_web, frustrated_faces, is_frustrated, is_negative_bond, negative_sides}
 use Rattle.sg_dual.proofs.DualWebs.{dual_edge_at, dual_edge_count}
-use Rattle.sg_sums.proofs.ParityLaws.{odd_test}
+use Rattle.sg_base.proofs.ParityLaws.{odd_test}
 use Rattle.sg_planar.specs.BrokenLists.{BreaksExactly, FitsFaces}
 use Rattle.sg_planar.proofs.FittingBonds.{sides_parity}
 use Rattle.sg_ground.proofs.FrustratedCuts.{far_face, near_face}

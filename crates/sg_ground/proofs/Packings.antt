@@ -4,8 +4,8 @@ use Rattle.std.proofs.lemmas.Bool.{cases_eq}
 use Rattle.std.proofs.lemmas.List.{length-map}
 use Rattle.std.proofs.lemmas.List.Elements.{All-map, All-weaker}
 use Rattle.std.proofs.lemmas.List.Sums.{count_by-le-length}
-use Rattle.sg_sums.specs.Sets.{holds}
-use Rattle.sg_sums.proofs.ListLaws.{sum_by-map_of}
+use Rattle.sg_base.specs.Sets.{holds}
+use Rattle.sg_base.proofs.ListLaws.{sum_by-map_of}
 use Rattle.sg_model.specs.Ising.{Ising, bond_at, bond_count}
 use Rattle.sg_model.specs.WellFormed.{IsInstance}
 use Rattle.sg_model.specs.Connected.{IsConnected}

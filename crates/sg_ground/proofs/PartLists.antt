@@ -6,10 +6,10 @@ use Rattle.std.proofs.lemmas.List.{get_or-map, length-map}
 use Rattle.std.proofs.lemmas.List.Elements.{All-cons, All-nil}
 use Rattle.std.proofs.lemmas.List.Folds.{list_any_at}
 use Rattle.std.proofs.lemmas.List.Sums.{passes_at_first, sum_by-cons}
-use Rattle.sg_sums.specs.Sums.{sum_below}
-use Rattle.sg_sums.specs.Sets.{holds}
-use Rattle.sg_sums.proofs.MemberSums.{members_sum}
-use Rattle.sg_sums.proofs.SumLaws.{sum_below-same, sum_by-same, sum_exchange}
+use Rattle.sg_base.specs.Sums.{sum_below}
+use Rattle.sg_base.specs.Sets.{holds}
+use Rattle.sg_base.proofs.MemberSums.{members_sum}
+use Rattle.sg_base.proofs.SumLaws.{sum_below-same, sum_by-same, sum_exchange}
 use Rattle.sg_model.specs.declared.bond.Bond.{Bond}
 use Rattle.sg_model.specs.Ising.{Ising, IsBond, bond_at, bond_count}
 use Rattle.sg_model.specs.Connected.{JoinedBy, Reached, all_bonds}

@@ -5,8 +5,8 @@ use Rattle.std.specs.List.Sorted.{IsStrictlyIncreasing}
 use Rattle.std.proofs.lemmas.Bool.{cases_eq, eq-eqb, false≢true}
 use Rattle.std.proofs.lemmas.List.{get_or-set_other, get_or-set_same, get_or-take, get_or_default, length-set, length-take, take_all}
 use Rattle.std.proofs.lemmas.List.Folds.{list_any_more}
-use Rattle.sg_sums.specs.Sets.{holds}
-use Rattle.sg_sums.proofs.OneMore.{rising_order}
+use Rattle.sg_base.specs.Sets.{holds}
+use Rattle.sg_base.proofs.OneMore.{rising_order}
 use Rattle.sg_model.specs.Spins.{spin}
 use Rattle.sg_ground.specs.Placed.{WritesAt, numbered}
 

@@ -5,11 +5,11 @@ use Rattle.std.specs.List.Sorted.{IsStrictlyIncreasing}
 use Rattle.std.proofs.lemmas.Bool.{cases_eq, cases_lt}
 use Rattle.std.proofs.lemmas.List.{get_or-map, length-map}
 use Rattle.std.proofs.lemmas.List.Elements.{All-from_get_or, All-map, All-weaker}
-use Rattle.sg_sums.specs.Sums.{sum_below}
-use Rattle.sg_sums.specs.Sets.{holds}
-use Rattle.sg_sums.proofs.ListLaws.{cases_in, list_any-map, list_any-agree_at, list_any-never, sum_by-map_of, sum_by-zero}
-use Rattle.sg_sums.proofs.OneMore.{rising_order}
-use Rattle.sg_sums.proofs.SumLaws.{sum_below-same, sum_by_is_sum_below, sum_by-same}
+use Rattle.sg_base.specs.Sums.{sum_below}
+use Rattle.sg_base.specs.Sets.{holds}
+use Rattle.sg_base.proofs.ListLaws.{cases_in, list_any-map, list_any-agree_at, list_any-never, sum_by-map_of, sum_by-zero}
+use Rattle.sg_base.proofs.OneMore.{rising_order}
+use Rattle.sg_base.proofs.SumLaws.{sum_below-same, sum_by_is_sum_below, sum_by-same}
 use Rattle.sg_model.specs.declared.bond.Bond.{Bond}
 use Rattle.sg_model.specs.Ising.{Ising, IsBond, bond_at, bond_count}
 use Rattle.sg_model.specs.WellFormed.{IsInstance}

@@ -1,10 +1,10 @@
 -- What a walk from marks that are not set says: what it marks is reached.
 use Rattle.std.proofs.Common.{◌≡◌, ◌⊎◌, inl, inr, ℕ, Bool, true, false, List, subst, get_or, replicate}
-use Rattle.sg_sums.specs.Sets.{IsMarked, Stands}
-use Rattle.sg_sums.proofs.MarkLaws.{none_marked}
+use Rattle.sg_base.specs.Sets.{IsMarked, Stands}
+use Rattle.sg_base.proofs.MarkLaws.{none_marked}
 use Rattle.sg_model.specs.Ising.{Ising}
 use Rattle.sg_model.specs.Connected.{Reached}
-use Rattle.sg_walk.specs.Walk.{IsWalked}
+use Rattle.sg_planar.specs.Walk.{IsWalked}
 
 -- a walk marks what its root reaches
 pub reached_by_walk : (inst : Ising) (set : ℕ → Bool) (root x n : ℕ) (old now : List Bool) (order : List ℕ)

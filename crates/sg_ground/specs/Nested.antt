@@ -1,6 +1,6 @@
 -- Proofs of ground states by nests of regions over the faces, in linear size.
 use Rattle.std.specs.Prelude.{◌≡◌, ◌≤◌, ◌+◌, ◌^◌, ℕ, ℤ, List, Option, IfSome}
-use Rattle.sg_sums.specs.Sets.{chosen_below}
+use Rattle.sg_base.specs.Sets.{chosen_below}
 use Rattle.sg_model.specs.Ising.{Ising, bond_at, bond_count}
 use Rattle.sg_model.specs.Broken.{is_broken}
 use Rattle.sg_model.specs.Spins.{IsAssignment}

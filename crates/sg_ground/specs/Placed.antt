@@ -1,6 +1,6 @@
 -- What a part gives to the whole, in the numbers of the whole.
 use Rattle.std.specs.Prelude.{◌≡◌, ℕ, ◌<◌, false, ℤ, List, length, map, slice_index}
-use Rattle.sg_sums.specs.Sets.{holds}
+use Rattle.sg_base.specs.Sets.{holds}
 use Rattle.sg_model.specs.Spins.{spin}
 use Rattle.sg_check.specs.declared.packing.Loop.{Loop}
 

@@ -1,6 +1,6 @@
 -- A minimum T-join of the frustrated faces, with its weight, and with the odd cuts that prove it.
 use Rattle.std.specs.Prelude.{◌≡◌, ℕ, ◌*◌, ◌≤◌, ℤ, pos, List, sum_by, unsigned_abs}
-use Rattle.sg_limits.specs.Limits.{forced_limit}
+use Rattle.sg_base.specs.Limits.{forced_limit}
 use Rattle.sg_graph.specs.declared.cut.Cut.{Cut}
 use Rattle.sg_graph.specs.Web.{weight_of}
 use Rattle.sg_graph.specs.Join.{IsLeastJoin}

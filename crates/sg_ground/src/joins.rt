@@ -1,7 +1,7 @@
 // Minimum T-joins of the frustrated faces of one component, with their weight, and the energy by
 // it.
 ghost use Rattle.std.specs.Prelude.{◌≡◌, ◌+◌, ◌≤◌, ◌+ℤ◌, ◌-ℤ◌, ◌%◌, length, pos, unsigned_abs, IfErr, IfOk, IfSome};
-ghost use Rattle.sg_limits.specs.Limits.{forced_limit};
+ghost use Rattle.sg_base.specs.Limits.{forced_limit};
 ghost use Rattle.sg_model.specs.Connected.{IsConnected};
 ghost use Rattle.sg_model.specs.Energy.{weight};
 ghost use Rattle.sg_planar.specs.Fit.{IsPlanar};

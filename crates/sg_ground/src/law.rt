@@ -1,5 +1,5 @@
 ghost use Rattle.std.specs.Prelude.{ℕ, ℤ, ◌*◌, ◌-ℤ◌, pos, List};
-ghost use Rattle.sg_sums.specs.Sets.{chosen_below};
+ghost use Rattle.sg_base.specs.Sets.{chosen_below};
 ghost use Rattle.sg_model.specs.Broken.{is_broken};
 ghost use Rattle.sg_model.specs.Connected.{IsConnected};
 ghost use Rattle.sg_model.specs.Energy.{IsGroundState, IsLeastEnergy, weight};

@@ -20,13 +20,13 @@ use super::NoMemory;
 use super::answer::NestedState;
 use super::state::{State, ground_state_counted};
 use super::whole::whole_state;
+use sg_base::places;
 use sg_dual::dual;
 use sg_graph::{Terminals, Web};
 use sg_model::{Bond, BondList, Instance, Spins};
 use sg_nest::{Nest, proves};
 use sg_planar::Planar;
 use sg_regions::{NestProposal, Proposer, Regions};
-use sg_sums::places;
 use sg_tjoin::{Taken, Unproved};
 use std::alloc::Global;
 

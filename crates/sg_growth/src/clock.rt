@@ -2,8 +2,7 @@
 //
 // Of each edge, hub and inner region one event counts, its soonest; what was entered for it before is
 // passed over when it comes. An event takes the same time for any number of edges, but for the agenda.
-use sg_agenda::{Agenda, Event, Subject};
-use sg_slots::{Store, set_entry};
+use sg_slots::{Agenda, Event, Store, Subject, set_entry};
 use std::alloc::Global;
 
 /// A time that never comes.

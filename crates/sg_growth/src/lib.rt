@@ -4,7 +4,7 @@
 //!
 //! - [`Adjacency`] has the arcs between nodes, each edge with two darts.
 //! - [`Cover`] tells which region has taken a node, and at which radius.
-//! - [`Clock`] has the time and the queue of events (`sg_agenda`): at most one event for each edge, each
+//! - [`Clock`] has the time and the queue of events (`Agenda` of `sg_slots`): at most one event for each edge, each
 //!   region and each hub. [`Hubs`] orders the arcs at nodes of high degree, so that only the soonest waits.
 //! - [`Nest`] has the finished regions: which region took each node and when, and how they are nested.
 //!

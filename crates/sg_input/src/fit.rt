@@ -1,6 +1,6 @@
 // Instances that are fit for a planar solver, out of texts.
 ghost use Rattle.std.specs.Prelude.{◌<◌, [], length, IfOk, IfErr};
-ghost use Rattle.sg_limits.specs.Limits.{text_limit};
+ghost use Rattle.sg_base.specs.Limits.{text_limit};
 ghost use Rattle.sg_model.specs.Faults.{OrNoMemory};
 ghost use Rattle.sg_reader.specs.Kept.{kept_of};
 ghost use Rattle.sg_reader.specs.ReadInstance.{ReadsInstance, RefusesInstance};

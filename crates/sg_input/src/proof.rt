@@ -1,6 +1,6 @@
 // Instances with stated proofs, out of texts.
 ghost use Rattle.std.specs.Prelude.{◌<◌, length, IfOk, IfErr};
-ghost use Rattle.sg_limits.specs.Limits.{text_limit};
+ghost use Rattle.sg_base.specs.Limits.{text_limit};
 ghost use Rattle.sg_model.specs.Faults.{OrNoMemory};
 ghost use Rattle.sg_input.specs.Input.{GivesProof, RefusesProof};
 

@@ -22,7 +22,7 @@ pub use devices::{Gave, Sink, Source, Took};
 pub use memory_sink::MemSink;
 pub use memory_source::MemSource;
 pub use reading::{ReadEnd, read_all};
-use sg_list::Numbers;
+use sg_base::Numbers;
 use std::alloc::AllocError;
 pub use writing::{WriteFault, put};
 

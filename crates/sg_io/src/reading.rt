@@ -1,6 +1,6 @@
 // Reading a source to its end.
 ghost use Rattle.std.specs.Prelude.{◌≡◌, ◌+◌, ◌<◌, ◌≤◌, [], length, true, IfErr, IfOk, OnOk};
-ghost use Rattle.sg_limits.specs.Limits.{text_limit};
+ghost use Rattle.sg_base.specs.Limits.{text_limit};
 ghost use Rattle.sg_io.specs.Devices.{AgreesWith};
 ghost use Rattle.sg_io.specs.Reading.{Empties, end_faults, IsTooLong, Stops};
 

@@ -12,7 +12,7 @@
 //! T-join says. No clause says when it says yes; an implementation that always says no would be proved,
 //! so tests (`sg_web_rows`) show that it accepts. `specs/Side.antt` has what is kept from cut to cut;
 //! `proofs/Sides.antt` that moving one more node to the other side keeps it; and `MarkedLists` of
-//! `sg_sums` the counting argument: a rising list of marked places that is as long as the number of
+//! `sg_base` the counting argument: a rising list of marked places that is as long as the number of
 //! marks is the list of all marked places.
 #![tactic(auto)]
 

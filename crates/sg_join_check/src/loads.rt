@@ -6,8 +6,8 @@ ghost use Rattle.sg_graph.specs.Web.{edge_count, edge_weight, weight_of};
 ghost use Rattle.sg_join_check.specs.Shape.{HasCutShape};
 
 use super::NoMemory;
+use sg_base::add_weight;
 use sg_graph::{Cut, Web};
-use sg_sums::add_weight;
 use std::alloc::Global;
 
 // Adds the weight of each cut at its edges.

@@ -4,8 +4,8 @@ ghost use Rattle.std.specs.Prelude.{◌+◌, ◌*◌, ◌≤◌, ◌↔◌, IsTr
 ghost use Rattle.sg_graph.specs.Web.{IsWeb};
 ghost use Rattle.sg_join_check.specs.Shape.{HasCutShape, IsEdgeSet};
 
+use sg_base::{all_below, is_rising};
 use sg_graph::{Cut, Web};
-use sg_sums::{all_below, is_rising};
 
 // Whether the list is a set of edges.
 pub fn is_edge_set(web: &Web, list: &[u32]) -> bool

@@ -2,7 +2,7 @@
 use Rattle.std.proofs.Common.{◌≡◌, ℕ, ◌*◌, ◌≤◌, true, false, not, List, [], length, Option, Some, None, refl, sym, subst, arith}
 use Rattle.std.specs.Prelude.{unwrap_or}
 use Rattle.std.proofs.lemmas.Bool.{leb-true, ltb-false, not-false, true≢false}
-use Rattle.sg_limits.specs.Limits.{bond_limit, spin_limit}
+use Rattle.sg_base.specs.Limits.{bond_limit, spin_limit}
 use Rattle.sg_model.specs.Ising.{Ising, bond_count}
 use Rattle.sg_lattice.specs.Tables.{IsSize, least_cols}
 use Rattle.sg_draft.specs.declared.member.Member.TheVariants as member

@@ -10,7 +10,7 @@ use Rattle.sg_model.specs.declared.refusal.Fault.{Fault}
 use Rattle.sg_model.specs.declared.refusal.Fault.TheVariants.{Refused, NoMemory}
 use Rattle.sg_model.specs.declared.bond.Bond.{Bond}
 use Rattle.sg_model.specs.Faults.{OrNoMemory}
-use Rattle.sg_limits.specs.Limits.{json_limit}
+use Rattle.sg_base.specs.Limits.{json_limit}
 use Rattle.sg_lattice.specs.declared.kind.Kind.{Kind}
 use Rattle.sg_lattice.specs.Tables.{lattice}
 use Rattle.sg_reader.specs.declared.header.Form.{Form}

@@ -13,7 +13,7 @@ use Rattle.sg_draft.specs.Members.{bad_member}
 use Rattle.sg_reader.specs.declared.header.Form.{Form}
 use Rattle.sg_reader.specs.Field.{without_marks}
 use Rattle.sg_json.specs.Members.{draft_of, form_in, is_known, names_in}
-use Rattle.sg_limits.specs.Limits.{json_limit}
+use Rattle.sg_base.specs.Limits.{json_limit}
 
 -- the bytes after the byte-order marks are UTF-8, and `serde_json`'s own definition reads the data from them
 pub record SaysData (bytes : List ℕ) (d : Data) : Type 0 where

@@ -1,6 +1,6 @@
 ghost use Rattle.std.specs.Prelude.{◌≡◌, ◌≤◌, IfOk, IfErr};
 ghost use Rattle.serde_json.specs.View.{view};
-ghost use Rattle.sg_limits.specs.Limits.{bond_limit, spin_limit};
+ghost use Rattle.sg_base.specs.Limits.{bond_limit, spin_limit};
 ghost use Rattle.sg_model.specs.Faults.{OrNoMemory};
 ghost use Rattle.sg_model.specs.Ising.{bond_count as count_of};
 ghost use Rattle.sg_draft.specs.Draft.{IsDraftRefusal, IsDrafted, OfGeneral, OfLattice};

@@ -1,6 +1,6 @@
 ghost use Rattle.std.specs.Prelude.{◌≤◌, IfOk, IfErr};
 ghost use Rattle.serde_json.specs.View.{view};
-ghost use Rattle.sg_limits.specs.Limits.{bond_limit, spin_limit};
+ghost use Rattle.sg_base.specs.Limits.{bond_limit, spin_limit};
 ghost use Rattle.sg_model.specs.Faults.{OrNoMemory};
 ghost use Rattle.sg_model.specs.Ising.{bond_count as count_of};
 ghost use Rattle.sg_model.specs.WellFormed.{IsInstance};
@@ -12,8 +12,8 @@ ghost use Rattle.sg_json.specs.ReadJson.{Gives, ReadsJson, RefusesData, RefusesJ
 use super::form::{form_member, has_known_names};
 use super::members::{read_general, read_lattice};
 use serde_json::Value;
+use sg_base::JSON_LIMIT;
 use sg_draft::{Member, bad_member};
-use sg_limits::JSON_LIMIT;
 use sg_model::{Fault, Instance, Refusal};
 use sg_reader::{Form, without_marks};
 use std::alloc::Global;

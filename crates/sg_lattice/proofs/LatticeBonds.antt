@@ -6,7 +6,7 @@ use Rattle.std.proofs.lemmas.Nat.{div_below, div-add-mod', div-mul-add, mod_belo
 use Rattle.std.proofs.lemmas.List.{get_or_append_left, get_or-append-add, get_or-map, length-append, length-map}
 use Rattle.std.proofs.lemmas.List.Elements.{All-from_get_or}
 use Rattle.std.proofs.lemmas.List.FromFn.{get_or-map-range_with_len, length-map-range_with_len}
-use Rattle.sg_sums.proofs.Ranks.{at_rank, rank, rank_less}
+use Rattle.sg_base.proofs.Ranks.{at_rank, rank, rank_less}
 use Rattle.sg_model.specs.declared.bond.Bond.{Bond}
 use Rattle.sg_model.specs.Ising.{Ising, IsBond, bond_at, bond_count}
 use Rattle.sg_lattice.specs.declared.kind.Kind.{Kind}

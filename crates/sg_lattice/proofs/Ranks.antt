@@ -5,10 +5,10 @@ use Rattle.std.proofs.lemmas.Bool.{cases_eq}
 use Rattle.std.proofs.lemmas.Nat.{div-mul-add, mod-mul-add, mul-le}
 use Rattle.std.proofs.lemmas.List.{append_assoc, get_or_append_left, get_or_push, map-append}
 use Rattle.std.proofs.lemmas.List.Sums.{length-filter}
-use Rattle.sg_sums.specs.Sets.{chosen_below}
-use Rattle.sg_sums.proofs.Choosing.{chosen_below_more}
-use Rattle.sg_sums.proofs.DealtSums.{sum_by_range}
-use Rattle.sg_sums.proofs.Ranks.{rank, rank_less}
+use Rattle.sg_base.specs.Sets.{chosen_below}
+use Rattle.sg_base.proofs.Choosing.{chosen_below_more}
+use Rattle.sg_base.proofs.DealtSums.{sum_by_range}
+use Rattle.sg_base.proofs.Ranks.{rank, rank_less}
 
 -- one more of them, under a function and behind a front
 pub map_chosen_more : {A : Type 0} (f : ℕ → A) (p : ℕ → Bool) (front : List A) (n : ℕ) →

@@ -1,6 +1,6 @@
 ghost use Rattle.std.specs.Prelude.{◌≡◌, ◌<◌, ◌≤◌, ◌+◌, ◌-◌, ◌*◌, ◌/◌, ◌%◌, ◌^◌, [], ◌∷◌, ◌++◌, if◌then◌else◌, List, pos, map, length, slice_index_or, OnOk, IfOk, All, unsigned_abs};
 ghost use Rattle.std.specs.List.{range_with_len};
-ghost use Rattle.sg_list.specs.Pieces.{with_more};
+ghost use Rattle.sg_base.specs.Pieces.{with_more};
 ghost use Rattle.sg_lattice.specs.declared.kind.Ends.{Ends};
 ghost use Rattle.sg_lattice.specs.Tables.{IsSize, bond_total, bonds_between, coupled_bond, darts, ends_from, ends_of, own_dart, has_bond, reverse_dart, lattice, north, north_west, seam_of, bond_origins, west};
 
@@ -155,7 +155,7 @@ impl Shape {
     }
 
     // What follows adds darts to the last list.
-    #[tactic(auto, using(sg_list::proofs::LastLists::with_more_none))]
+    #[tactic(auto, using(sg_base::proofs::LastLists::with_more_none))]
     fn push_forth(self, rotation: &mut Rotation, step: Step, r: u32, c: u32) -> Result<(), NoMemory>
         requires some { 0 < length rotation.old }
         requires row { r < self.rows }
@@ -168,7 +168,7 @@ impl Shape {
         Ok(())
     }
 
-    #[tactic(auto, using(sg_list::proofs::LastLists::with_more_none))]
+    #[tactic(auto, using(sg_base::proofs::LastLists::with_more_none))]
     fn push_back(self, rotation: &mut Rotation, step: Step, r: u32, c: u32) -> Result<(), NoMemory>
         requires some { 0 < length rotation.old }
         requires row { r < self.rows }
@@ -181,7 +181,7 @@ impl Shape {
         Ok(())
     }
 
-    #[tactic(auto, using(sg_list::proofs::LastLists::with_more_none))]
+    #[tactic(auto, using(sg_base::proofs::LastLists::with_more_none))]
     fn push_north(self, rotation: &mut Rotation, r: u32, c: u32) -> Result<(), NoMemory>
         requires some { 0 < length rotation.old }
         requires row { r < self.rows }
@@ -194,7 +194,7 @@ impl Shape {
         Ok(())
     }
 
-    #[tactic(auto, using(sg_list::proofs::LastLists::with_more_none))]
+    #[tactic(auto, using(sg_base::proofs::LastLists::with_more_none))]
     fn push_north_west(self, rotation: &mut Rotation, r: u32, c: u32) -> Result<(), NoMemory>
         requires some { 0 < length rotation.old }
         requires row { r < self.rows }
@@ -207,7 +207,7 @@ impl Shape {
         Ok(())
     }
 
-    #[tactic(auto, using(sg_list::proofs::LastLists::with_more_none))]
+    #[tactic(auto, using(sg_base::proofs::LastLists::with_more_none))]
     fn push_west(self, rotation: &mut Rotation, r: u32, c: u32) -> Result<(), NoMemory>
         requires some { 0 < length rotation.old }
         requires row { r < self.rows }

@@ -4,7 +4,7 @@ use Rattle.std.proofs.lemmas.Bool.{cases_lt, eqb-true}
 use Rattle.std.proofs.lemmas.List.{get_or_read}
 use Rattle.std.proofs.Math.Bool.{or-false}
 use Rattle.sg_arena.proofs.FamilyLemmas.{alive_from_holds, child-covered, child-smaller, leaf_bound, size-positive, some_leaf, top-covers}
-use Rattle.sg_sums.proofs.ListLaws.{place_of_any}
+use Rattle.sg_base.proofs.ListLaws.{place_of_any}
 use Rattle.sg_arena.specs.Family.{Covers, Family, Holds, IsAlive, IsFamily, IsTop, blank_link, cycle_of, holds, leaf_count, leaf_node, leaves_of, link_at}
 use Rattle.sg_match.proofs.TopLemmas.{top_of}
 

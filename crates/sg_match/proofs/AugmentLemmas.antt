@@ -6,10 +6,10 @@ use Rattle.std.proofs.Math.ListN.{length-set}
 use Rattle.sg_arena.proofs.FamilyLemmas.{leaf_bound, top-apart}
 use Rattle.sg_arena.specs.Family.{Family, Holds, IsFamily, IsTop}
 use Rattle.sg_match.proofs.PairLemmas.{IsPaired-unpair_tops, IsPaired-pair_tops, twice_first, twice_other, twice_second}
-use Rattle.sg_pairing.proofs.TightLemmas.{tight-back}
+use Rattle.sg_slack.proofs.TightLemmas.{tight-back}
 use Rattle.sg_match.proofs.TreeLemmas.{inner_at, inner_top, length-inners, length-outers, outer_at, outer_pair, outer_top}
 use Rattle.sg_match.specs.Augmented.{CanAugment, IsAugmented}
-use Rattle.sg_pairing.specs.Tight.{IsTight}
+use Rattle.sg_slack.specs.Tight.{IsTight}
 use Rattle.sg_match.specs.Pairs.{IsPaired, flipped, pair_of}
 use Rattle.sg_match.specs.Tree.{inners, tree_edge_at, outers}
 use Rattle.sg_match.specs.declared.Edge.{Edge}

@@ -6,14 +6,14 @@ use Rattle.std.specs.List.{list_any, range_with_len}
 use Rattle.std.specs.Option.{option_map_or}
 use Rattle.std.proofs.lemmas.Int.{ints}
 use Rattle.sg_arena.proofs.FamilyLemmas.{some_leaf}
-use Rattle.sg_sums.proofs.ListLaws.{cases_in, list_any-agree, sum_by-agree}
+use Rattle.sg_base.proofs.ListLaws.{cases_in, list_any-agree, sum_by-agree}
 use Rattle.sg_arena.proofs.RaisedFamily.{IsTop-raised_old, cycle-raised, length-raised, node_at-raised}
 use Rattle.sg_arena.specs.Changes.{CanRaise, raise_steps, raised, raised_dual, with_dual}
-use Rattle.sg_sums.specs.Naturals.{nat_of}
+use Rattle.sg_base.specs.Naturals.{nat_of}
 use Rattle.sg_arena.specs.Family.{Family, Holds, IsBlossom, IsFamily, IsTop, Node, dual_of, holds, leaf_count, node_at}
 use Rattle.sg_match.proofs.InnerLemmas.{IsLeastDual}
-use Rattle.sg_sums.proofs.SumLaws.{sum_below-same, sum_by_is_sum_below}
-use Rattle.sg_sums.specs.Sums.{sum_below}
+use Rattle.sg_base.proofs.SumLaws.{sum_below-same, sum_by_is_sum_below}
+use Rattle.sg_base.specs.Sums.{sum_below}
 use Rattle.sg_match.proofs.EngineLemmas.{even, exposed_of, symmetric, tree_of}
 use Rattle.sg_match.proofs.ParityLemmas.{tree_parity}
 use Rattle.sg_match.proofs.NearestStep.{CanChangeDuals-nearest}
@@ -26,9 +26,9 @@ use Rattle.sg_match.specs.InnerZeros.{IsInnerZero}
 use Rattle.sg_match.specs.Engine.{IsEngine}
 use Rattle.sg_match.specs.Events.{IsNext, IsTightOuterFree, IsTightOuterOuter}
 use Rattle.sg_match.specs.Feasible.{IsFeasible}
-use Rattle.sg_pairing.specs.Tight.{IsTight}
+use Rattle.sg_slack.specs.Tight.{IsTight}
 use Rattle.sg_match.specs.Exposed.{IsExposed}
-use Rattle.sg_pairing.specs.Metric.{cost}
+use Rattle.sg_slack.specs.Metric.{cost}
 use Rattle.sg_match.specs.Pairs.{IsPaired, pair_of}
 use Rattle.sg_match.specs.Nearest.{HasNearest, IsAt, IsOuterFreeAt, IsOuterOuterAt, IsNearest}
 use Rattle.sg_match.specs.State.{State}

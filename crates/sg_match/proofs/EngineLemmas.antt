@@ -4,7 +4,7 @@ use Rattle.sg_arena.specs.Family.{IsAlive, leaf_count}
 use Rattle.sg_match.proofs.TreeLemmas.{inner_top}
 use Rattle.sg_match.specs.Engine.{IsEngine}
 use Rattle.sg_match.specs.Exposed.{IsExposed}
-use Rattle.sg_pairing.specs.Metric.{cost}
+use Rattle.sg_slack.specs.Metric.{cost}
 use Rattle.sg_match.specs.State.{State}
 use Rattle.sg_match.specs.Tree.{IsTree, tree_edge_at}
 use Rattle.sg_match.specs.declared.Engine.TheInside.{Inside}

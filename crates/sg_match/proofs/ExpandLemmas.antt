@@ -6,7 +6,7 @@ use Rattle.sg_arena.specs.Changes.{with_slot}
 use Rattle.sg_arena.specs.Family.{Family, Holds, IsChildAt, IsChildOf, IsTop, cycle_of, link_at}
 use Rattle.sg_arena.specs.declared.Link.{Link}
 use Rattle.sg_arena.proofs.FamilyLemmas.{length-with_slot}
-use Rattle.sg_sums.proofs.ListLaws.{cases_option}
+use Rattle.sg_base.proofs.ListLaws.{cases_option}
 use Rattle.sg_match.proofs.BoundStep.{IsBounded-made}
 use Rattle.sg_match.proofs.EngineLemmas.{exposed_of, no_edges, symmetric, tree_of}
 use Rattle.sg_match.proofs.NodeLemmas.{length-nodes, node_at_place}
@@ -19,8 +19,8 @@ use Rattle.sg_match.specs.Engine.{IsEngine}
 use Rattle.sg_match.specs.ExpandedTree.{expanded_edges}
 use Rattle.sg_match.specs.Rings.{IsTurnedRing, IsOdd, IsRingPaired, rotated}
 use Rattle.sg_match.specs.Exposed.{IsExposed}
-use Rattle.sg_pairing.specs.Metric.{cost}
-use Rattle.sg_sums.specs.Sets.{Differ}
+use Rattle.sg_slack.specs.Metric.{cost}
+use Rattle.sg_base.specs.Sets.{Differ}
 use Rattle.sg_match.specs.Path.{nodes_of}
 use Rattle.sg_match.specs.State.{State}
 use Rattle.sg_match.specs.Steps.{blossoms_of, steps_left, tree_left}

@@ -11,7 +11,7 @@ use Rattle.sg_arena.specs.Family.{Family, Holds, IsBlossom, IsFamily, IsTop, Nod
 use Rattle.sg_arena.specs.declared.Link.{Link}
 use Rattle.sg_match.proofs.RingPairLemmas.{ring_from, ring_side}
 use Rattle.sg_match.specs.Feasible.{IsFeasible}
-use Rattle.sg_pairing.specs.Tight.{IsTight}
+use Rattle.sg_slack.specs.Tight.{IsTight}
 use Rattle.sg_match.specs.Pairs.{IsPaired, flipped, pair_of}
 use Rattle.sg_match.specs.Rings.{IsRingPaired}
 use Rattle.sg_match.specs.declared.Edge.{Edge}

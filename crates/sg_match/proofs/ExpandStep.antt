@@ -8,7 +8,7 @@ use Rattle.std.proofs.lemmas.List.Folds.{list_any_at}
 use Rattle.std.proofs.Math.Seq.{drop-cons, take-suc}
 use Rattle.sg_arena.proofs.ExpandedFamily.{IsTop-expand_child, IsTop-expand_old, IsTop-expand_other, duals_between-expand, holds_rest}
 use Rattle.sg_arena.proofs.FamilyLemmas.{after_within, alive_from_holds, name_bound, top-no_child}
-use Rattle.sg_sums.proofs.ListLaws.{place_of_any}
+use Rattle.sg_base.proofs.ListLaws.{place_of_any}
 use Rattle.sg_arena.specs.Changes.{CanShrink, with_slot}
 use Rattle.sg_arena.specs.Family.{Family, Holds, IsBlossom, IsFamily, IsTop, after_index, blank_link, cycle_of, dual_of, holds, link_at}
 use Rattle.sg_arena.specs.declared.Link.{Link}
@@ -24,7 +24,7 @@ use Rattle.sg_match.proofs.RotateLemmas.{Differ-cycle, cases_after}
 use Rattle.sg_match.proofs.StepsStep.{blossoms-expanded, rest-fewer}
 use Rattle.sg_match.proofs.TreeLemmas.{inner_at, inner_top, length-inners, length-outers, outer_at, outer_top}
 use Rattle.sg_match.specs.Feasible.{IsFeasible}
-use Rattle.sg_pairing.specs.Tight.{IsTight}
+use Rattle.sg_slack.specs.Tight.{IsTight}
 use Rattle.sg_match.specs.ExpandedTree.{expanded_edges, ring_edges, ring_start}
 use Rattle.sg_match.specs.Rings.{IsOdd, IsRingPaired}
 use Rattle.sg_match.specs.Exposed.{IsExposed}

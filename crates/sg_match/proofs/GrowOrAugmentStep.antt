@@ -7,7 +7,7 @@ use Rattle.std.proofs.lemmas.List.{get_or_default, map-append}
 use Rattle.std.proofs.lemmas.List.Elements.{Contains-get_or}
 use Rattle.std.proofs.lemmas.List.Folds.{list_any-append}
 use Rattle.sg_arena.proofs.FamilyLemmas.{leaf_bound, top-apart}
-use Rattle.sg_sums.proofs.ListLaws.{place_of_any}
+use Rattle.sg_base.proofs.ListLaws.{place_of_any}
 use Rattle.sg_arena.specs.Family.{Family, Holds, IsFamily, IsTop, holds, leaf_count}
 use Rattle.sg_match.proofs.BoundStep.{IsBounded-made}
 use Rattle.sg_match.proofs.EngineLemmas.{symmetric}
@@ -15,15 +15,15 @@ use Rattle.sg_match.proofs.GrowStep.{IsTree-grown}
 use Rattle.sg_match.proofs.NameLemmas.{place_of_name}
 use Rattle.sg_match.proofs.PairLemmas.{mate_differs}
 use Rattle.sg_match.proofs.StepsStep.{rest-one_fewer}
-use Rattle.sg_pairing.proofs.TightLemmas.{tight-back}
+use Rattle.sg_slack.proofs.TightLemmas.{tight-back}
 use Rattle.sg_match.proofs.TreeLemmas.{inner_top, length-outers, edge_room, mate_out, outer_top}
 use Rattle.sg_match.specs.Augmented.{CanAugment, IsAugmented, HasTwoTops}
 use Rattle.sg_match.specs.Engine.{IsEngine}
 use Rattle.sg_match.specs.Events.{IsTightOuterFree, IsTightInto}
-use Rattle.sg_pairing.specs.Tight.{IsTight}
+use Rattle.sg_slack.specs.Tight.{IsTight}
 use Rattle.sg_match.specs.Exposed.{IsExposed}
 use Rattle.sg_match.specs.Names.{IsTaken}
-use Rattle.sg_pairing.specs.Metric.{cost}
+use Rattle.sg_slack.specs.Metric.{cost}
 use Rattle.sg_match.specs.Pairs.{pair_of}
 use Rattle.sg_match.specs.State.{State}
 use Rattle.sg_match.specs.Steps.{rest_of, steps_left}

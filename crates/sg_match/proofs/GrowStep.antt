@@ -5,8 +5,8 @@ use Rattle.sg_arena.specs.Family.{Family, Holds, IsTop}
 use Rattle.sg_slack.proofs.DistinctLemmas.{at_end}
 use Rattle.sg_match.proofs.NameLemmas.{Differ-last}
 use Rattle.sg_match.proofs.TreeLemmas.{length-outers, outer_at}
-use Rattle.sg_pairing.specs.Tight.{IsTight}
-use Rattle.sg_sums.specs.Sets.{Differ}
+use Rattle.sg_slack.specs.Tight.{IsTight}
+use Rattle.sg_base.specs.Sets.{Differ}
 use Rattle.sg_match.specs.Pairs.{pair_of}
 use Rattle.sg_match.specs.Tree.{IsOut, IsOuterLeaf, IsTree, blank_tree_edge, inners, tree_edge_at, outers}
 use Rattle.sg_match.specs.declared.Edge.{Edge}

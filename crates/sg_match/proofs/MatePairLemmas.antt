@@ -2,14 +2,14 @@
 use Rattle.std.proofs.Common.{List, Option, ap, arith, get_or, inl, inr, length, subst, suc, sym, zero, ℕ, ◌<◌, ◌∙◌, ◌≡◌, ◌≢◌, ◌≤◌}
 use Rattle.std.proofs.lemmas.Bool.{cases_lt}
 use Rattle.sg_arena.proofs.FamilyLemmas.{alive_from_holds, child-covered, child-smaller, leaf-held, leaf_bound, size-positive, top-apart, top-covers}
-use Rattle.sg_sums.proofs.ListLaws.{place_of_any}
+use Rattle.sg_base.proofs.ListLaws.{place_of_any}
 use Rattle.sg_arena.specs.Family.{Covers, Family, Holds, IsAlive, IsFamily, IsTop, blank_link, cycle_of, holds, leaf_count, leaf_node, leaves_of, link_at}
 use Rattle.sg_match.proofs.AboveLemmas.{child_alive, from_above, leaf-covered, leaf-only, plain-covered, plain_is}
 use Rattle.sg_match.proofs.SetPairLemmas.{base_pair, one_pair, pair_at_top, pair_from, sides, some_pair}
-use Rattle.sg_pairing.proofs.TightLemmas.{tight-back}
+use Rattle.sg_slack.proofs.TightLemmas.{tight-back}
 use Rattle.sg_match.specs.Feasible.{IsFeasible}
-use Rattle.sg_pairing.specs.Tight.{IsTight}
-use Rattle.sg_pairing.specs.Matching.{IsLeftOnce, IsMatching, IsPairing}
+use Rattle.sg_slack.specs.Tight.{IsTight}
+use Rattle.sg_slack.specs.Matching.{IsLeftOnce, IsMatching, IsPairing}
 use Rattle.sg_match.specs.Pairs.{AllPaired, IsPaired, flipped}
 use Rattle.sg_match.specs.MatePairs.{IsMate, IsSetPair}
 use Rattle.sg_match.specs.declared.Edge.{Edge}

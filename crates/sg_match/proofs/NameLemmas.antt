@@ -5,7 +5,7 @@ use Rattle.std.proofs.lemmas.List.{get_or_append_left, get_or_default}
 use Rattle.std.proofs.lemmas.List.Elements.{Contains-get_or}
 use Rattle.std.proofs.Math.Seq.{get_or-append_right}
 use Rattle.sg_slack.proofs.DistinctLemmas.{at_end}
-use Rattle.sg_sums.specs.Sets.{Differ}
+use Rattle.sg_base.specs.Sets.{Differ}
 
 -- an entry has a place
 pub place_of_name : (xs : List ℕ) (n : ℕ) → Contains xs n → (i : ℕ) × (i < length xs) × (get_or xs i 0 ≡ n)

@@ -12,7 +12,7 @@ use Rattle.sg_match.specs.Scans.{CanScan, IsScanned, IsScannedAt}
 use Rattle.sg_match.specs.Nearest.{IsAt, IsNearest}
 use Rattle.sg_match.specs.Feasible.{IsFeasible}
 use Rattle.sg_match.specs.Marks.{IsListed, AreRightMarks}
-use Rattle.sg_pairing.specs.Metric.{IsMetric, cost}
+use Rattle.sg_slack.specs.Metric.{IsMetric, cost}
 use Rattle.sg_match.specs.Tree.{IsOut, IsShape, StandsAt, inners, outers}
 use Rattle.sg_match.specs.declared.TreeEdge.{TreeEdge}
 use Rattle.sg_slack.specs.Slack.{IsOuterFree, IsOuterOuter, SumsFit, mark_at, slack_of}

@@ -6,22 +6,22 @@ use Rattle.std.specs.Option.{option_map_or}
 use Rattle.sg_arena.proofs.DualLemmas.{total-between}
 use Rattle.sg_arena.proofs.FamilyLemmas.{total-names}
 use Rattle.sg_arena.proofs.LeavesFamily.{IsFamily-leaves, IsTop-leaf, leaves-no_child, no_share}
-use Rattle.sg_sums.proofs.ListLaws.{sum_by-zero}
+use Rattle.sg_base.proofs.ListLaws.{sum_by-zero}
 use Rattle.sg_arena.specs.Changes.{OnlyLeaves}
 use Rattle.sg_arena.specs.Family.{Family, IsFamily, Node, leaf_count, node_at, share, total_of}
 use Rattle.sg_arena.specs.Slack.{duals_between}
 use Rattle.sg_arena.specs.declared.Link.{Link}
 use Rattle.sg_match.specs.Engine.{IsEngine}
 use Rattle.sg_match.specs.Feasible.{IsFeasible}
-use Rattle.sg_pairing.specs.Tight.{IsTight}
+use Rattle.sg_slack.specs.Tight.{IsTight}
 use Rattle.sg_match.specs.Exposed.{IsExposed}
-use Rattle.sg_pairing.specs.Metric.{IsMetric, cost}
+use Rattle.sg_slack.specs.Metric.{IsMetric, cost}
 use Rattle.sg_match.specs.Pairs.{IsPaired, pair_of}
 use Rattle.sg_match.specs.Steps.{blossoms_of, has_children, steps_left}
 use Rattle.sg_match.specs.declared.Edge.{Edge}
 use Rattle.sg_match.specs.declared.TreeEdge.{TreeEdge}
 use Rattle.sg_slack.specs.Table.{Table}
-use Rattle.sg_sums.proofs.SumLaws.{sum_below-zero, sum_by_is_sum_below}
+use Rattle.sg_base.proofs.SumLaws.{sum_below-zero, sum_by_is_sum_below}
 
 module _ (f : Family) (only : OnlyLeaves f) (first : f.steps ≡ 0) (t : Table) (metric : IsMetric t) (size : leaf_count f ≡ t.size) (pairs : List (Option Edge))
     (room : length pairs ≡ length f.nodes) (free : (n : ℕ) → pair_of pairs n ≡ None) where

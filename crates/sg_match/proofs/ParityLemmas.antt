@@ -5,7 +5,7 @@ use Rattle.sg_arena.proofs.FamilyLemmas.{leaf_bound}
 use Rattle.sg_arena.specs.Family.{Family, Holds, IsFamily, IsTop, leaf_count, total_of}
 use Rattle.sg_match.proofs.TreeLemmas.{pair_tight, inner_at, inner_top, length-inners, length-outers, outer_at, outer_top}
 use Rattle.sg_match.specs.Feasible.{IsFeasible}
-use Rattle.sg_pairing.specs.Tight.{IsTight}
+use Rattle.sg_slack.specs.Tight.{IsTight}
 use Rattle.sg_match.specs.Pairs.{IsPaired}
 use Rattle.sg_match.specs.Tree.{IsTree, inners, tree_edge_at, outers}
 use Rattle.sg_match.specs.declared.Edge.{Edge}

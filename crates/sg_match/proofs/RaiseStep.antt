@@ -5,17 +5,17 @@ use Rattle.std.proofs.lemmas.List.{get_or_default}
 use Rattle.std.proofs.lemmas.Bool.{cases_eq, cases_lt}
 use Rattle.sg_arena.proofs.DualLemmas.{between-tops, duals_between-back, inner-leaf_enough}
 use Rattle.sg_arena.proofs.FamilyLemmas.{after_within, child-covered, leaf_bound, top-covers}
-use Rattle.sg_sums.proofs.ListLaws.{cases_in}
+use Rattle.sg_base.proofs.ListLaws.{cases_in}
 use Rattle.sg_arena.proofs.RaisedFamily.{IsFamily-raised, IsTop-raised, IsTop-raised_old, between-raised_same, cycle-raised, leaves-raised, total-raised_is}
 use Rattle.sg_arena.specs.Changes.{CanRaise, raised, raised_dual}
 use Rattle.sg_arena.specs.Family.{Family, Holds, IsBlossom, IsFamily, IsTop, after_index, cycle_of, dual_of, has_leaf, holds, leaf_count, link_at, total_of}
 use Rattle.sg_arena.specs.Slack.{duals_between}
 use Rattle.sg_match.proofs.AboveLemmas.{leaf-only}
 use Rattle.sg_match.proofs.TreeLemmas.{pair_tight, inner_at, length-inners, length-outers, mate_out, out_holds, outer_at, outer_cases, outer_pair}
-use Rattle.sg_sums.specs.Sets.{Stands}
+use Rattle.sg_base.specs.Sets.{Stands}
 use Rattle.sg_match.specs.DualChange.{CanChangeDuals}
 use Rattle.sg_match.specs.Feasible.{IsFeasible}
-use Rattle.sg_pairing.specs.Tight.{IsTight}
+use Rattle.sg_slack.specs.Tight.{IsTight}
 use Rattle.sg_match.specs.Exposed.{IsExposed}
 use Rattle.sg_match.specs.Pairs.{IsPaired, flipped, pair_of}
 use Rattle.sg_match.specs.Tree.{IsOut, IsTree, inners, tree_edge_at, outers}

@@ -4,7 +4,7 @@ use Rattle.std.proofs.lemmas.Bool.{cases_lt}
 use Rattle.sg_arena.specs.Family.{Family, Holds, IsTop}
 use Rattle.sg_match.proofs.GrowStep.{IsTree-grown, IsTree-root, inners_more, outer_leaf_last, outer_leaf_more, outers_more}
 use Rattle.sg_match.proofs.TreeLemmas.{inner_at, length-inners, length-outers, outer_at}
-use Rattle.sg_pairing.specs.Tight.{IsTight}
+use Rattle.sg_slack.specs.Tight.{IsTight}
 use Rattle.sg_match.specs.Pairs.{pair_of}
 use Rattle.sg_match.specs.ShrunkTree.{with_outer}
 use Rattle.sg_match.specs.Tree.{IsOut, IsOuterLeaf, IsTree, inners, tree_edge_at, outers}

@@ -5,9 +5,9 @@ use Rattle.sg_arena.proofs.FamilyLemmas.{leaf_bound}
 use Rattle.sg_arena.specs.Family.{Family, Holds, IsCycle, after_index, cycle_of, leaf_count, link_at}
 use Rattle.sg_arena.specs.declared.Link.{Link}
 use Rattle.sg_match.proofs.RotateLemmas.{IsCycle-rotated, cases_after, from_ring, to_ring}
-use Rattle.sg_pairing.proofs.TightLemmas.{tight-back}
+use Rattle.sg_slack.proofs.TightLemmas.{tight-back}
 use Rattle.sg_match.specs.Feasible.{IsFeasible}
-use Rattle.sg_pairing.specs.Tight.{IsTight}
+use Rattle.sg_slack.specs.Tight.{IsTight}
 use Rattle.sg_match.specs.Rings.{IsBackwards, IsTurnedRing, rotated}
 
 -- the children of a blossom as a ring of tight links

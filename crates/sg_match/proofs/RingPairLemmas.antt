@@ -9,7 +9,7 @@ use Rattle.sg_match.proofs.NodeLemmas.{length-nodes, node_at_place}
 use Rattle.sg_match.proofs.PairLemmas.{twice_first, twice_other, twice_second}
 use Rattle.sg_match.proofs.RotateLemmas.{cases_after}
 use Rattle.sg_match.specs.Pairs.{edge_of_link, flipped, pair_of}
-use Rattle.sg_sums.specs.Sets.{Differ}
+use Rattle.sg_base.specs.Sets.{Differ}
 use Rattle.sg_match.specs.Path.{nodes_of}
 use Rattle.sg_match.specs.Rings.{IsRingPaired, ring_pair}
 use Rattle.sg_match.specs.declared.Edge.{Edge}

@@ -8,7 +8,7 @@ use Rattle.sg_arena.specs.Family.{Family, Holds, IsChildAt, IsCycle, IsFamily, a
 use Rattle.sg_arena.specs.declared.Link.{Link}
 use Rattle.sg_slack.proofs.DistinctLemmas.{short}
 use Rattle.sg_match.proofs.NodeLemmas.{length-nodes, node_at_place}
-use Rattle.sg_sums.specs.Sets.{Differ}
+use Rattle.sg_base.specs.Sets.{Differ}
 use Rattle.sg_match.specs.Path.{nodes_of}
 use Rattle.sg_match.specs.Rings.{rotated}
 

@@ -16,7 +16,7 @@ use Rattle.sg_match.proofs.GrowStep.{IsTree-root}
 use Rattle.sg_match.proofs.StepsStep.{count_by-one_fewer}
 use Rattle.sg_match.specs.Engine.{IsEngine}
 use Rattle.sg_match.specs.Exposed.{IsExposed, root_count}
-use Rattle.sg_pairing.specs.Metric.{cost}
+use Rattle.sg_slack.specs.Metric.{cost}
 use Rattle.sg_match.specs.Pairs.{pair_of}
 use Rattle.sg_match.specs.State.{State}
 use Rattle.sg_match.specs.Steps.{blossoms_of, rest_of, steps_left, tree_left}

@@ -3,7 +3,7 @@ use Rattle.std.proofs.Common.{◌≡◌, ◌≢◌, ◌⊎◌, ℕ, zero, suc, �
 use Rattle.std.proofs.lemmas.Option.{same_Some}
 use Rattle.std.proofs.lemmas.Bool.{cases_eq}
 use Rattle.sg_arena.proofs.FamilyLemmas.{top-no_child}
-use Rattle.sg_sums.proofs.ListLaws.{cases_option, place_of_any, some≢none}
+use Rattle.sg_base.proofs.ListLaws.{cases_option, place_of_any, some≢none}
 use Rattle.sg_arena.specs.Family.{Family, Holds, IsAlive, IsCycle, IsFamily, IsTop, blank_link, cycle_of, holds, link_at}
 use Rattle.sg_arena.specs.declared.Link.{Link}
 use Rattle.sg_match.proofs.AboveLemmas.{from_above, one_parent}

@@ -11,7 +11,7 @@ use Rattle.sg_arena.specs.Family.{Family, Holds, IsFamily, IsTop, Node, after_in
 use Rattle.sg_arena.specs.declared.Link.{Link}
 use Rattle.sg_match.proofs.NodeLemmas.{length-nodes, node_at_place}
 use Rattle.sg_match.specs.Feasible.{IsFeasible}
-use Rattle.sg_pairing.specs.Tight.{IsTight}
+use Rattle.sg_slack.specs.Tight.{IsTight}
 use Rattle.sg_match.specs.Pairs.{IsPaired, flipped, pair_of}
 use Rattle.sg_match.specs.Path.{AreTight, IsPath}
 use Rattle.sg_match.specs.TreeCycle.{IsTreeCycle}

@@ -7,7 +7,7 @@ use Rattle.std.proofs.lemmas.List.Folds.{list_any_at}
 use Rattle.std.proofs.lemmas.List.{get_or-set_other, get_or-set_same, get_or_default}
 use Rattle.std.proofs.Math.ListN.{length-set}
 use Rattle.sg_arena.proofs.FamilyLemmas.{leaf_bound, length-with_slot, name_bound, some_leaf, top-apart}
-use Rattle.sg_sums.proofs.ListLaws.{place_of_any}
+use Rattle.sg_base.proofs.ListLaws.{place_of_any}
 use Rattle.sg_arena.proofs.ShrunkFamily.{IsTop-shrink_old, IsTop-shrink_other}
 use Rattle.sg_arena.specs.Changes.{CanShrink, blossom_of, with_slot}
 use Rattle.sg_arena.specs.Family.{Family, Holds, IsFamily, IsTop, holds, link_at, node_at}
@@ -22,7 +22,7 @@ use Rattle.sg_match.proofs.StepsStep.{blossoms-shrunk, rest-one_fewer}
 use Rattle.sg_match.proofs.TreeLemmas.{pair_tight, inner_at, inner_top, length-inners, length-outers, outer_cases, outer_pair}
 use Rattle.sg_match.specs.Engine.{IsEngine}
 use Rattle.sg_match.specs.Exposed.{IsExposed, root_count}
-use Rattle.sg_pairing.specs.Metric.{cost}
+use Rattle.sg_slack.specs.Metric.{cost}
 use Rattle.sg_match.specs.Pairs.{pair_of}
 use Rattle.sg_match.specs.Path.{AreTight, nodes_of}
 use Rattle.sg_match.specs.TreeCycle.{HasTight, IsTreeCycle}

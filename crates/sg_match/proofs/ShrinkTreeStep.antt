@@ -15,7 +15,7 @@ use Rattle.sg_match.proofs.ShrinkSetsStep.{CanShrink-tree_cycle, path_head, top-
 use Rattle.sg_match.proofs.ShrinkTreeLemmas.{shrunk-gone, shrunk-kept}
 use Rattle.sg_match.proofs.TreeLemmas.{inner_at, inner_top, length-inners, length-outers, outer_at, outer_pair, outer_top}
 use Rattle.sg_match.specs.Feasible.{IsFeasible}
-use Rattle.sg_pairing.specs.Tight.{IsTight}
+use Rattle.sg_slack.specs.Tight.{IsTight}
 use Rattle.sg_match.specs.Pairs.{IsPaired, flipped, pair_of}
 use Rattle.sg_match.specs.Path.{AreTight, nodes_of}
 use Rattle.sg_match.specs.TreeCycle.{IsTreeCycle}

@@ -1,7 +1,7 @@
 -- What an answer of the engine says of its pairs.
 use Rattle.std.proofs.Common.{◌≡◌, ◌*◌, ◌≤◌, ℕ, List, length, Option, Some, None, IsSome, refl, ap, inl, inr, arith}
 use Rattle.std.proofs.lemmas.Bool.{false≢true}
-use Rattle.sg_sums.proofs.ListLaws.{cases_option}
+use Rattle.sg_base.proofs.ListLaws.{cases_option}
 use Rattle.sg_arena.specs.Family.{Family}
 use Rattle.sg_match.proofs.BoundStep.{bound-bare}
 use Rattle.sg_match.proofs.EngineLemmas.{no_edges, tree_of}

@@ -5,8 +5,8 @@ use Rattle.std.proofs.lemmas.Bool.{false≢true}
 use Rattle.std.specs.Option.{option_map_or}
 use Rattle.std.proofs.lemmas.List.Sums.{sum_by-set}
 use Rattle.std.proofs.lemmas.List.FromFn.{get_or-range_with_len, length-range_with_len}
-use Rattle.sg_sums.proofs.ListLaws.{count_by-mono}
-use Rattle.sg_sums.proofs.SumLaws.{sum_by-gain}
+use Rattle.sg_base.proofs.ListLaws.{count_by-mono}
+use Rattle.sg_base.proofs.SumLaws.{sum_by-gain}
 use Rattle.sg_arena.specs.Changes.{blossom_of, with_slot}
 use Rattle.sg_arena.specs.Family.{Family, IsBlossom, Node, leaf_count, node_at}
 use Rattle.sg_arena.specs.declared.Link.{Link}

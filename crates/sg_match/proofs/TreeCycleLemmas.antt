@@ -8,12 +8,12 @@ use Rattle.sg_arena.proofs.FamilyLemmas.{leaf_bound, top-apart}
 use Rattle.sg_arena.specs.Family.{Family, Holds, IsFamily, IsTop, blank_link}
 use Rattle.sg_arena.specs.declared.Link.{Link}
 use Rattle.sg_match.proofs.NameLemmas.{Contains-two, Differ-append, Differ-two}
-use Rattle.sg_pairing.proofs.TightLemmas.{tight-back}
+use Rattle.sg_slack.proofs.TightLemmas.{tight-back}
 use Rattle.sg_match.proofs.TreeLemmas.{inner_at, length-inners, length-outers, outer_at}
-use Rattle.sg_pairing.specs.Tight.{IsTight}
+use Rattle.sg_slack.specs.Tight.{IsTight}
 use Rattle.sg_match.specs.Links.{pair_link, down_link, step_link, up_link}
 use Rattle.sg_match.specs.Path.{AreTight, IsPath, nodes_of}
-use Rattle.sg_sums.specs.Sets.{Differ}
+use Rattle.sg_base.specs.Sets.{Differ}
 use Rattle.sg_match.specs.TreeCycle.{HasTight, IsSpot, IsTreeCycle}
 use Rattle.sg_match.specs.Tree.{IsShape, inners, tree_edge_at, outers}
 use Rattle.sg_match.specs.declared.TreeEdge.{TreeEdge}

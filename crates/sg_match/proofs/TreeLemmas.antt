@@ -7,7 +7,7 @@ use Rattle.sg_arena.proofs.FamilyLemmas.{leaf_bound, name_bound, top-apart}
 use Rattle.sg_arena.specs.Family.{Family, Holds, IsFamily, IsTop, leaf_count}
 use Rattle.sg_slack.proofs.DistinctLemmas.{short}
 use Rattle.sg_match.proofs.PairLemmas.{mate_is}
-use Rattle.sg_pairing.specs.Tight.{IsTight}
+use Rattle.sg_slack.specs.Tight.{IsTight}
 use Rattle.sg_match.specs.Pairs.{IsPaired, flipped, pair_of}
 use Rattle.sg_match.specs.Tree.{IsOut, IsShape, IsTree, blank_tree_edge, inners, tree_edge_at, outers}
 use Rattle.sg_match.specs.declared.Edge.{Edge}

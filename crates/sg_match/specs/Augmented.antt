@@ -1,7 +1,7 @@
 -- The pairs after an augmentation.
 use Rattle.std.specs.Prelude.{◌≡◌, ◌≢◌, ℕ, ◌<◌, List, length, Option, None}
 use Rattle.sg_arena.specs.Family.{Family, Holds, leaf_count, IsTop}
-use Rattle.sg_pairing.specs.Tight.{IsTight}
+use Rattle.sg_slack.specs.Tight.{IsTight}
 use Rattle.sg_match.specs.Pairs.{pair_of, IsPaired}
 use Rattle.sg_match.specs.Tree.{IsOuterLeaf, IsTree, IsOut}
 use Rattle.sg_match.specs.declared.Edge.{Edge}

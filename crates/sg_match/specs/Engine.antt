@@ -3,9 +3,9 @@ use Rattle.std.specs.Prelude.{◌≡◌, ◌+◌, ◌*◌, ◌≤◌, length, []
 use Rattle.sg_arena.specs.Family.{leaf_count}
 use Rattle.sg_match.specs.Bound.{IsBounded}
 use Rattle.sg_match.specs.Feasible.{IsFeasible}
-use Rattle.sg_pairing.specs.Tight.{IsTight}
+use Rattle.sg_slack.specs.Tight.{IsTight}
 use Rattle.sg_match.specs.Exposed.{IsExposed}
-use Rattle.sg_pairing.specs.Metric.{cost, IsMetric}
+use Rattle.sg_slack.specs.Metric.{cost, IsMetric}
 use Rattle.sg_match.specs.Pairs.{IsPaired}
 use Rattle.sg_match.specs.State.{State}
 use Rattle.sg_match.specs.Steps.{steps_left}

@@ -1,7 +1,7 @@
 -- What comes next at the tree: an inner blossom of dual 0, or a pair of leaves of slack 0.
 use Rattle.std.specs.Prelude.{◌≡◌, ℕ, Some}
 use Rattle.sg_arena.specs.Family.{Holds, IsTop}
-use Rattle.sg_pairing.specs.Metric.{cost}
+use Rattle.sg_slack.specs.Metric.{cost}
 use Rattle.sg_match.specs.InnerZeros.{IsLeastInnerZero}
 use Rattle.sg_match.specs.Nearest.{IsOuterFreeAt, IsOuterOuterAt}
 use Rattle.sg_match.specs.State.{State}

@@ -1,7 +1,7 @@
 -- The unpaired tops.
 use Rattle.std.specs.Prelude.{◌≡◌, ◌≢◌, ℕ, ◌+◌, ◌<◌, List, length, slice_index, Option, None, Some, ◌%◌, ◌⊎◌}
 use Rattle.sg_arena.specs.Family.{Family, IsTop}
-use Rattle.sg_sums.specs.Sets.{Differ, Stands}
+use Rattle.sg_base.specs.Sets.{Differ, Stands}
 use Rattle.sg_match.specs.Pairs.{pair_of}
 use Rattle.sg_match.specs.declared.Edge.{Edge}
 

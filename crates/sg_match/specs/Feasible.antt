@@ -2,7 +2,7 @@
 use Rattle.std.specs.Prelude.{◌≡◌, ℕ, ◌<◌, ◌≤◌, length, ◌%◌}
 use Rattle.sg_arena.specs.Family.{Family, Holds, leaf_count, IsTop, IsFamily, cycle_of, link_at, total_of}
 use Rattle.sg_arena.specs.Slack.{duals_between}
-use Rattle.sg_pairing.specs.Tight.{IsTight}
+use Rattle.sg_slack.specs.Tight.{IsTight}
 
 -- no slack is negative, links of cycles are tight, and totals within a top have one parity
 pub record IsFeasible (f : Family) (cost : ℕ → ℕ → ℕ) : Type 0 where

@@ -1,6 +1,6 @@
 -- Lists of names.
 use Rattle.std.specs.Prelude.{◌≡◌, ◌≢◌, ℕ, ◌+◌, List, length, Contains}
-use Rattle.sg_sums.specs.Sets.{Differ}
+use Rattle.sg_base.specs.Sets.{Differ}
 
 -- a list without one of its entries, in any order
 pub record IsTaken (old new : List ℕ) (name : ℕ) : Type 0 where

@@ -2,8 +2,8 @@
 use Rattle.std.specs.Prelude.{◌≡◌, ℕ, ◌<◌, List, length, [], ◌∷◌, map}
 use Rattle.sg_arena.specs.Family.{Family, Holds, IsTop, link_at}
 use Rattle.sg_arena.specs.declared.Link.{Link}
-use Rattle.sg_pairing.specs.Tight.{IsTight}
-use Rattle.sg_pairing.specs.Metric.{cost}
+use Rattle.sg_slack.specs.Tight.{IsTight}
+use Rattle.sg_slack.specs.Metric.{cost}
 
 -- from one top to another, each link from a leaf of its node to a leaf of the next node
 abbrev pub IsPath : Family → List Link → ℕ → ℕ → Type 0

@@ -6,8 +6,8 @@ use Rattle.sg_arena.specs.Changes.{AreTops}
 use Rattle.sg_arena.specs.Family.{Family, Holds, holds}
 use Rattle.sg_slack.specs.declared.Mark.{Mark}
 use Rattle.sg_slack.specs.declared.Mark.TheVariants.{Free, Inner, Outer}
-use Rattle.sg_pairing.specs.Tight.{IsTight}
-use Rattle.sg_sums.specs.Sets.{Stands}
+use Rattle.sg_slack.specs.Tight.{IsTight}
+use Rattle.sg_base.specs.Sets.{Stands}
 use Rattle.sg_match.specs.Pairs.{pair_of}
 use Rattle.sg_match.specs.declared.Edge.{Edge}
 use Rattle.sg_match.specs.declared.TreeEdge.{TreeEdge}

@@ -2,8 +2,8 @@
 use Rattle.std.specs.Prelude.{◌≡◌, ℕ, ◌<◌, ◌≤◌, List, length, slice_index, ◌%◌, ◌⊎◌, Contains}
 use Rattle.sg_arena.specs.Family.{Family, leaf_count}
 use Rattle.sg_arena.specs.declared.Link.{Link}
-use Rattle.sg_pairing.specs.Tight.{IsTight}
-use Rattle.sg_sums.specs.Sets.{Differ}
+use Rattle.sg_slack.specs.Tight.{IsTight}
+use Rattle.sg_base.specs.Sets.{Differ}
 use Rattle.sg_match.specs.Path.{IsPath, nodes_of}
 use Rattle.sg_match.specs.Tree.{tree_edge_at, outers}
 use Rattle.sg_match.specs.declared.TreeEdge.{TreeEdge}

@@ -1,8 +1,8 @@
 ghost use Rattle.std.specs.Prelude.{◌≡◌, ℕ, ◌+◌, ◌<◌, ◌≤◌, ◌≤ℤ◌, length, pos, vec_capacity};
 ghost use Rattle.sg_arena.specs.Changes.{CanRaise, raised};
-ghost use Rattle.sg_sums.specs.Naturals.{nat_of};
+ghost use Rattle.sg_base.specs.Naturals.{nat_of};
 ghost use Rattle.sg_arena.specs.Family.{leaf_count};
-ghost use Rattle.sg_pairing.specs.Metric.{IsMetric, cost};
+ghost use Rattle.sg_slack.specs.Metric.{IsMetric, cost};
 ghost use Rattle.sg_match.specs.Nearest.{HasNearest, IsNearest};
 ghost use Rattle.sg_match.specs.Scans.{CanScan, IsScanned};
 ghost use Rattle.sg_match.specs.Tree.{inners, outers};
@@ -15,8 +15,8 @@ use super::inner::{least_dual, least_inner_zero};
 use super::leaves::{list_leaves, list_tree, mark_leaves};
 use super::{Engine, Event, TreeEdge};
 use sg_arena::Arena;
+use sg_base::Steps;
 use sg_slack::{Costs, Mark, Near, Pair, least_outer_outer};
-use sg_steps::Steps;
 use std::sync::ledger::Ledger;
 
 // By how much the duals may change at most, and the pair of leaves that is tight then.

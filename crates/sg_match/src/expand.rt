@@ -1,7 +1,7 @@
 use super::Engine;
 use super::expand_tree::{expand_edge, place_of_inner, turn_to_odd};
 use super::rings::{list_ring, pair_ring, place_of};
-use sg_steps::Steps;
+use sg_base::Steps;
 use std::sync::ledger::Ledger;
 
 impl Engine {

@@ -6,11 +6,11 @@
 //! proof that no other pairing costs less: a family of nested odd sets of leaves with *duals*, such
 //! that no two leaves have a cost below the duals of the sets that hold just one of them (their
 //! *slack* is not negative), mates have slack 0, and each set is left by exactly one pair of mates.
-//! So the mates cost as much as all duals together, and `sg_pairing::matching_is_least` says why no
+//! So the mates cost as much as all duals together, and `sg_slack::matching_is_least` says why no
 //! pairing costs less: each set is odd, so some pair leaves it and pays for its dual.
 //!
 //! For the next engineer: the contract that matters is that of [`Engine::run`], over `Matching` and
-//! `Metric` of `sg_pairing`; nothing in it names the tree or a buffer. What the engine keeps between
+//! `Metric` of `sg_slack`; nothing in it names the tree or a buffer. What the engine keeps between
 //! two steps is `IsEngine` of `specs/Engine.antt`, one record for each part: `Feasible`, `Pairs`,
 //! `Exposed`, `Tree`. Each step has the file of its name: `search` goes round by round from an exposed
 //! top, `dual_change` raises the duals, then `grow`, `augment`, `shrink` and `expand`, and `mates` pairs
@@ -47,7 +47,7 @@ mod shrink_cycle;
 mod shrink_tree;
 
 use sg_arena::{Arena, Link};
-use sg_list::Numbers;
+use sg_base::Numbers;
 use sg_slack::{Mark, Near};
 use std::alloc::{AllocError, Global};
 use std::marker::Model;

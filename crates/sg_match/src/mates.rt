@@ -1,8 +1,8 @@
 ghost use Rattle.std.specs.Prelude.{◌≡◌, ℕ, ◌<◌, ◌≤◌, ◌^◌, length, vec_capacity};
 ghost use Rattle.sg_arena.specs.Family.{Holds, IsBlossom, IsChildOf, IsFamily, leaf_count};
 ghost use Rattle.sg_match.specs.Feasible.{IsFeasible};
-ghost use Rattle.sg_pairing.specs.Tight.{IsTight};
-ghost use Rattle.sg_pairing.specs.Matching.{IsMatching};
+ghost use Rattle.sg_slack.specs.Tight.{IsTight};
+ghost use Rattle.sg_slack.specs.Matching.{IsMatching};
 ghost use Rattle.sg_match.specs.Pairs.{IsPaired, AllPaired};
 ghost use Rattle.sg_match.specs.Rings.{ring_pair};
 ghost use Rattle.sg_match.specs.MatePairs.{IsInside, IsMate};

@@ -1,6 +1,6 @@
 ghost use Rattle.std.specs.Prelude.{◌≡◌, ℕ, ◌<◌, ◌≤◌, length, vec_capacity, Contains};
 ghost use Rattle.sg_arena.specs.Family.{IsFamily, IsChild, IsChildAt, cycle_of, link_at};
-ghost use Rattle.sg_sums.specs.Sets.{Differ};
+ghost use Rattle.sg_base.specs.Sets.{Differ};
 ghost use Rattle.sg_match.specs.Path.{nodes_of};
 ghost use Rattle.sg_match.specs.Rings.{IsBackwards, IsOdd, IsRingPaired, rotated};
 

@@ -5,8 +5,8 @@ ghost use Rattle.sg_arena.specs.Family.{leaf_count};
 use super::mates::derive_mates;
 use super::{Edge, Engine, Matched, Mates, NoMemory, Stage, TreeEdge};
 use sg_arena::{Arena, Link};
+use sg_base::Steps;
 use sg_slack::{Costs, Mark, Near};
-use sg_steps::Steps;
 use std::alloc::Global;
 use std::sync::ledger::Ledger;
 
@@ -128,8 +128,8 @@ impl Engine {
     ghost use Rattle.sg_arena.specs.Family.{IsFamily, leaf_count};
     ghost use Rattle.sg_match.specs.Engine.{IsEngine};
     ghost use Rattle.sg_match.specs.Steps.{steps_left};
-    ghost use Rattle.sg_pairing.specs.Matching.{IsMatching, IsPairing, NoSlackIsNegative, pairing_cost, sum_of_duals};
-    ghost use Rattle.sg_pairing.specs.Metric.{IsMetric, cost};
+    ghost use Rattle.sg_slack.specs.Matching.{IsMatching, IsPairing, NoSlackIsNegative, pairing_cost, sum_of_duals};
+    ghost use Rattle.sg_slack.specs.Metric.{IsMetric, cost};
 
     /// An engine over these costs, which it keeps, with all the memory that it will need. Each leaf
     /// is an unpaired top with dual 0.
@@ -181,7 +181,7 @@ impl Engine {
     ///
     /// Each leaf has a mate. No slack is negative, mates have slack 0, and each set is left by
     /// exactly one pair of mates; so the mates cost as much as all duals together, and no pairing
-    /// costs less ([`sg_pairing::matching_is_least`]). The method is that of Edmonds (1965).
+    /// costs less ([`sg_slack::matching_is_least`]). The method is that of Edmonds (1965).
     ///
     /// For `k` leaves the family has taken at most `2 k^2` steps when it is returned, with those before
     /// this call, where a step is one `shrink`, `expand` or `raise`. The family counts them itself, so they

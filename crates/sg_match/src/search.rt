@@ -1,6 +1,6 @@
 use super::inner::least_inner_zero;
 use super::{Engine, Event, Stage};
-use sg_steps::Steps;
+use sg_base::Steps;
 use std::sync::ledger::Ledger;
 
 impl Engine {

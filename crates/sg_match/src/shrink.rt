@@ -3,7 +3,7 @@ ghost use Rattle.std.specs.Prelude.{◌≡◌, ◌≢◌};
 use super::Engine;
 use super::shrink_cycle::find_cycle;
 use super::shrink_tree::shrink_edges;
-use sg_steps::Steps;
+use sg_base::Steps;
 use std::sync::ledger::Ledger;
 
 // A name, with another in place of the one that goes.

@@ -5,9 +5,9 @@ use Rattle.std.specs.List.{list_any}
 use Rattle.std.proofs.lemmas.Bool.{cases_eq, cases_lt, cases_Bool, eqb-true, eq-eqb, lt-ltb, le-ltb, ltb-true, and_parts, false_from_ne_true, true≢false}
 use Rattle.std.proofs.lemmas.List.Elements.{All-weaker}
 use Rattle.std.proofs.lemmas.List.Folds.{list_any_at}
-use Rattle.sg_sums.specs.Sums.{sum_below}
-use Rattle.sg_sums.proofs.SumLaws.{sum_below-add, sum_below-le, sum_below-same, sum_by_is_sum_below}
-use Rattle.sg_sums.proofs.Tallies.{below_exchange, cond_small, sum_below_ones, sum_below_unique, sum_by-range}
+use Rattle.sg_base.specs.Sums.{sum_below}
+use Rattle.sg_base.proofs.SumLaws.{sum_below-add, sum_below-le, sum_below-same, sum_by_is_sum_below}
+use Rattle.sg_base.proofs.Tallies.{below_exchange, cond_small, sum_below_ones, sum_below_unique, sum_by-range}
 use Rattle.sg_graph.specs.declared.cut.Cut.{Cut}
 use Rattle.sg_graph.specs.Web.{Graph, IsEdge, IsWeb, edge_at, edge_count, edge_weight}
 use Rattle.sg_graph.specs.Walk.{IsConnectedWeb, IsDistance, Leads}
@@ -17,13 +17,13 @@ use Rattle.sg_graph.specs.Table.{IsTableOf, Routes}
 use Rattle.sg_graph.proofs.TableLaws.{connected_distance}
 use Rattle.sg_graph.proofs.Walks.{distance-edge, distance-itself, distance-joined, distance-over, turned}
 use Rattle.sg_arena.specs.Family.{Family, leaf_count, leaves_of, dual_of, holds, Holds, IsAlive, IsFamily}
-use Rattle.sg_sums.proofs.ListLaws.{place_of_any}
+use Rattle.sg_base.proofs.ListLaws.{place_of_any}
 use Rattle.sg_arena.proofs.FamilyLemmas.{leaf_bound, size-is, size-positive}
 use Rattle.sg_moat.specs.Input.{AreTerminalTables, distance_from, table_at, terminal_cost}
-use Rattle.sg_pairing.specs.Matching.{NoSlackIsNegative, dual_in, sum_of_duals}
+use Rattle.sg_slack.specs.Matching.{NoSlackIsNegative, dual_in, sum_of_duals}
 use Rattle.sg_arena.specs.Sets.{alive_at, inner_of}
 use Rattle.sg_moat.specs.Slices.{change_over, inside_count, is_below_level, is_inside}
-use Rattle.sg_sums.specs.Naturals.{gap}
+use Rattle.sg_base.specs.Naturals.{gap}
 use Rattle.sg_moat.specs.Gathers.{Gathers, IsMoatCut, reach_from, set_depth}
 use Rattle.sg_arena.proofs.SetCount.{sets_few}
 use Rattle.sg_moat.proofs.SetDuals.{apart_duals, nested_duals, outside_duals}

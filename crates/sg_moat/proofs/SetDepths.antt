@@ -3,9 +3,9 @@ use Rattle.std.proofs.Common.{◌≡◌, ℕ, ◌+◌, ◌^◌, ◌<◌, ◌≤�
 use Rattle.std.proofs.lemmas.Bool.{cases_lt, false≢true}
 use Rattle.std.proofs.lemmas.List.Elements.{All-append, All-from_get_or, All-weaker}
 use Rattle.std.proofs.lemmas.List.Sums.{fold-append, sum_by-append}
-use Rattle.sg_sums.specs.Sets.{chosen_below, holds as has_edge}
-use Rattle.sg_sums.proofs.Choosing.{chosen_below_no, chosen_below_same, chosen_below_yes}
-use Rattle.sg_sums.proofs.SumLaws.{sum_below-same}
+use Rattle.sg_base.specs.Sets.{chosen_below, holds as has_edge}
+use Rattle.sg_base.proofs.Choosing.{chosen_below_no, chosen_below_same, chosen_below_yes}
+use Rattle.sg_base.proofs.SumLaws.{sum_below-same}
 use Rattle.sg_graph.specs.declared.cut.Cut.{Cut}
 use Rattle.sg_graph.specs.Web.{Graph, IsEdge, IsWeb, edge_count}
 use Rattle.sg_graph.specs.OddCut.{crosses, odd_cut_weight}

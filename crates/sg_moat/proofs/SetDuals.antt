@@ -2,9 +2,9 @@
 use Rattle.std.proofs.Common.{◌≡◌, ◌≢◌, ℕ, ◌+◌, ◌≤◌, ◌&&◌, Bool, true, false, cond, [], length, Option, Some, None, refl, ap, ◌∙◌, subst, arith, true≢false}
 use Rattle.std.specs.Option.{option_map_or}
 use Rattle.std.proofs.lemmas.Bool.{and_parts, false_from_ne_true}
-use Rattle.sg_sums.specs.Parity.{xor}
-use Rattle.sg_sums.specs.Sums.{sum_below}
-use Rattle.sg_sums.proofs.SumLaws.{sum_below-add, sum_below-same, sum_below-le, sum_by_is_sum_below}
+use Rattle.sg_base.specs.Parity.{xor}
+use Rattle.sg_base.specs.Sums.{sum_below}
+use Rattle.sg_base.proofs.SumLaws.{sum_below-add, sum_below-same, sum_below-le, sum_by_is_sum_below}
 use Rattle.sg_arena.specs.Family.{Node, Family, node_at, IsAlive, dual_of, has_leaf, holds, Holds, Covers, IsFamily}
 use Rattle.sg_arena.specs.Slack.{cut_share, duals_between, exactly_one}
 use Rattle.sg_arena.specs.Sets.{within, strictly_within, share_below, inner_of}

@@ -2,10 +2,10 @@
 -- depths together change by at most n.
 use Rattle.std.proofs.Common.{inl, inr, ◌≡◌, ◌≢◌, ◌⊎◌, ℕ, zero, suc, ◌+◌, ◌<◌, ◌≤◌, min, arith}
 use Rattle.std.proofs.lemmas.Bool.{cases_eq, cases_lt}
-use Rattle.sg_sums.specs.Sums.{sum_below}
-use Rattle.sg_sums.proofs.SumLaws.{sum_below-add, sum_below-le, sum_below-zero}
-use Rattle.sg_sums.proofs.Tallies.{sum_below_unique}
-use Rattle.sg_sums.specs.Naturals.{gap}
+use Rattle.sg_base.specs.Sums.{sum_below}
+use Rattle.sg_base.proofs.SumLaws.{sum_below-add, sum_below-le, sum_below-zero}
+use Rattle.sg_base.proofs.Tallies.{sum_below_unique}
+use Rattle.sg_base.specs.Naturals.{gap}
 
 gap_triangle : (x y z : ℕ) → gap x z ≤ gap x y + gap y z
 gap_triangle x y z = omega arith

@@ -1,6 +1,6 @@
 -- The cuts of all sets of a family.
 use Rattle.std.specs.Prelude.{◌≡◌, ℕ, ◌+◌, ◌-◌, ◌*◌, ◌<◌, ◌≤◌, List, length, fold, min, All, sum_by}
-use Rattle.sg_sums.specs.Sums.{sum_below}
+use Rattle.sg_base.specs.Sums.{sum_below}
 use Rattle.sg_arena.specs.Family.{Family, dual_of, leaves_of}
 use Rattle.sg_graph.specs.declared.cut.Cut.{Cut}
 use Rattle.sg_graph.specs.Web.{Graph, edge_count}

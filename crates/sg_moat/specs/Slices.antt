@@ -1,12 +1,12 @@
 -- The cuts at the levels of one set, by the depths of the nodes.
 use Rattle.std.specs.Prelude.{◌≡◌, ℕ, ◌+◌, ◌<◌, ◌≤◌, ◌≤ℤ◌, ◌&&◌, ◌++◌, pos, Bool, List, length, All, sum_by}
 use Rattle.std.specs.Prelude.{nat_lt, cond, Contains, ◌⊎◌}
-use Rattle.sg_sums.specs.Sums.{sum_below}
-use Rattle.sg_sums.specs.Sets.{chosen_below}
+use Rattle.sg_base.specs.Sums.{sum_below}
+use Rattle.sg_base.specs.Sets.{chosen_below}
 use Rattle.sg_graph.specs.declared.cut.Cut.{Cut}
 use Rattle.sg_graph.specs.Web.{Graph, edge_at, edge_count}
 use Rattle.sg_graph.specs.OddCut.{crosses, cut_load, odd_cut_weight}
-use Rattle.sg_sums.specs.Naturals.{gap}
+use Rattle.sg_base.specs.Naturals.{gap}
 
 -- the node is at a depth below the level
 abbrev pub is_below_level : (ℕ → ℕ) → ℕ → ℕ → Bool

@@ -3,7 +3,7 @@ ghost use Rattle.sg_arena.specs.Family.{leaf_count};
 ghost use Rattle.sg_graph.specs.Join.{AreTerminals};
 ghost use Rattle.sg_graph.specs.OddCut.{CutsPack, odd_cut_weight};
 ghost use Rattle.sg_graph.specs.Walk.{IsConnectedWeb};
-ghost use Rattle.sg_pairing.specs.Matching.{NoSlackIsNegative, sum_of_duals};
+ghost use Rattle.sg_slack.specs.Matching.{NoSlackIsNegative, sum_of_duals};
 ghost use Rattle.sg_moat.specs.Depths.{ReachesAll};
 ghost use Rattle.sg_moat.specs.Gathers.{Adds};
 ghost use Rattle.sg_moat.specs.Input.{AreTerminalTables, terminal_cost};

@@ -2,7 +2,7 @@
 use Rattle.std.proofs.Common.{◌≡◌, ◌*◌, ◌≤◌, ◌^◌, ℤ, pos, Bool, List, arith, length, int_lt, unsigned_abs}
 use Rattle.std.proofs.lemmas.List.Elements.{All-weaker}
 use Rattle.std.proofs.lemmas.List.Sums.{sum_by-le}
-use Rattle.sg_sums.specs.Parity.{xor}
+use Rattle.sg_base.specs.Parity.{xor}
 use Rattle.sg_model.specs.declared.bond.Bond.{Bond}
 use Rattle.sg_model.specs.Ising.{Ising, IsBond}
 use Rattle.sg_model.specs.WellFormed.{IsInstance}

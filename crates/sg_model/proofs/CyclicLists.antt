@@ -5,7 +5,7 @@ use Rattle.std.proofs.Math.Nat.{mod_self, mod-eq_of_lt, mod-lt}
 use Rattle.std.proofs.lemmas.List.Sums.{sum_by-cons, get_or-le-sum_by, position_or_len_is}
 use Rattle.std.proofs.lemmas.Bool.{eq-eqb, ne_eqb, cases_eq}
 use Rattle.sg_model.specs.Rotation.{following}
-use Rattle.sg_sums.specs.Sets.{DifferByCount}
+use Rattle.sg_base.specs.Sets.{DifferByCount}
 
 pub one_place : (x : ℕ) (xs : List ℕ) (i : ℕ) → i < length xs → get_or xs i 0 ≡ x → 1 ≤ count_by (λ y. eqb y x) xs
 one_place x xs i l e = grind (arith, get_or-le-sum_by)

@@ -4,7 +4,7 @@ use Rattle.std.proofs.Common.{count_by, arith, Any, take_all, eqb-true}
 use Rattle.std.proofs.lemmas.List.{get_or_read}
 use Rattle.std.proofs.lemmas.List.Folds.{list_any_more, Any-from_list_any}
 use Rattle.std.proofs.lemmas.List.Sums.{sum_by_more}
-use Rattle.sg_sums.specs.Sets.{holds}
+use Rattle.sg_base.specs.Sets.{holds}
 use Rattle.sg_model.specs.Misplaced.{IsInPlace}
 
 -- a number that a list holds has a place there

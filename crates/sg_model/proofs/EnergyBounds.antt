@@ -1,7 +1,7 @@
 -- An energy is at most the weight of all bonds in size; and the energy of a ground state is the least.
 use Rattle.std.proofs.Common.{◌≡◌, ℕ, ◌*◌, ◌≤◌, ℤ, pos, ◌-ℤ◌, List, arith, sum_by, unsigned_abs}
 use Rattle.std.proofs.lemmas.Int.{ints}
-use Rattle.sg_sums.proofs.SumLaws.{sum_by-le-all}
+use Rattle.sg_base.proofs.SumLaws.{sum_by-le-all}
 use Rattle.sg_model.specs.declared.bond.Bond.{Bond}
 use Rattle.sg_model.specs.Ising.{Ising}
 use Rattle.sg_model.specs.WellFormed.{IsInstance}

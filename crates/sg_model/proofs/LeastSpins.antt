@@ -3,8 +3,8 @@ use Rattle.std.proofs.Common.{◌≡◌, ◌∙◌, sym, ap, ap₂, subst, refl,
 use Rattle.std.proofs.lemmas.Bool.{or_right, true≢false, eqb-true, false_from_ne_true, cases_eq, cases_lt}
 use Rattle.std.proofs.Math.Bool.{or-false}
 use Rattle.std.specs.List.Sorted.{IsStrictlyIncreasing}
-use Rattle.sg_sums.specs.Sets.{holds}
-use Rattle.sg_sums.proofs.RisingLists.{rising_rest, rises_over_first, holds_none_below}
+use Rattle.sg_base.specs.Sets.{holds}
+use Rattle.sg_base.proofs.RisingLists.{rising_rest, rises_over_first, holds_none_below}
 use Rattle.sg_model.specs.Ising.{Ising}
 use Rattle.sg_model.specs.Connected.{AreLeasts, IsConnected, IsLeastReached, all_bonds}
 use Rattle.sg_model.proofs.Paths.{reached_back}

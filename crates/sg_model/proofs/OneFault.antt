@@ -2,7 +2,7 @@
 use Rattle.std.proofs.Common.{◌≡◌, ◌⊎◌, inl, inr, ℕ, ◌<◌, ◌≤◌, Bool, true, cond, not, ◌&&◌, ◌||◌, eqb, List, length, get_or, take, refl, sym, ◌∙◌, ap, ap₂, subst, count_by, arith}
 use Rattle.std.proofs.lemmas.Bool.{cases_order, false_from_ne_true, lt-ltb, true≢false}
 use Rattle.std.proofs.lemmas.List.{get_or-take, length-take}
-use Rattle.sg_sums.specs.Sets.{DifferByCount, holds}
+use Rattle.sg_base.specs.Sets.{DifferByCount, holds}
 use Rattle.sg_model.specs.declared.refusal.Refusal.{Refusal}
 use Rattle.sg_model.specs.declared.refusal.Refusal.TheVariants.{BadRotation, BadSeam}
 use Rattle.sg_model.specs.Ising.{Ising, bond_count}

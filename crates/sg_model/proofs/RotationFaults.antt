@@ -4,7 +4,7 @@ use Rattle.std.proofs.lemmas.List.Elements.{All-from_get_or}
 use Rattle.sg_model.specs.Ising.{Ising, bond_count}
 use Rattle.sg_model.specs.Rotation.{IsRotation, darts_of, is_dart_of}
 use Rattle.sg_model.specs.Seam.{IsSeam}
-use Rattle.sg_sums.specs.Sets.{holds}
+use Rattle.sg_base.specs.Sets.{holds}
 use Rattle.sg_model.specs.Misplaced.{IsInPlace, IsFirstMisplaced}
 use Rattle.sg_model.specs.BadRotation.{IsBadRotation, IsLeastMissing}
 use Rattle.sg_model.specs.BadSeam.{is_bond}

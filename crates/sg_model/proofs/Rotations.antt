@@ -4,7 +4,7 @@ use Rattle.std.proofs.Math.Nat.{mod-lt}
 use Rattle.std.proofs.lemmas.Bool.{eq-eqb, eqb-true, ltb-true, lt-ltb, and_parts, and_from}
 use Rattle.sg_model.specs.Ising.{Ising}
 use Rattle.sg_model.specs.Rotation.{dart_count, rev, tail, head_of, is_dart_of, darts_of, following, next}
-use Rattle.sg_sums.specs.Sets.{DifferByCount}
+use Rattle.sg_base.specs.Sets.{DifferByCount}
 use Rattle.sg_model.specs.WellFormed.{IsInstance}
 use Rattle.sg_model.proofs.Darts.{tail_first, tail_second}
 use Rattle.sg_model.proofs.DartPairs.{dart_cases, rev_below}

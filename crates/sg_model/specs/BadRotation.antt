@@ -2,7 +2,7 @@
 use Rattle.std.specs.Prelude.{◌≡◌, ◌⊎◌, ℕ, ◌<◌, ◌==◌, ◌&&◌, Bool, true, false, cond, not, count_by}
 use Rattle.sg_model.specs.Ising.{Ising}
 use Rattle.sg_model.specs.Rotation.{darts_of, is_dart_of}
-use Rattle.sg_sums.specs.Sets.{holds}
+use Rattle.sg_base.specs.Sets.{holds}
 use Rattle.sg_model.specs.Misplaced.{IsInPlace, IsFirstMisplaced}
 
 -- whether the list of spin i lacks its dart d

@@ -1,6 +1,6 @@
 -- Marks on numbers: how the tests of an instance note which entries they have passed.
 use Rattle.std.specs.Prelude.{◌≡◌, ℕ, ◌<◌, Bool, true, false, List}
-use Rattle.sg_sums.specs.Sets.{holds, is_marked}
+use Rattle.sg_base.specs.Sets.{holds, is_marked}
 use Rattle.sg_model.specs.Ising.{Ising}
 use Rattle.sg_model.specs.Rotation.{darts_of, is_dart_of}
 use Rattle.sg_model.specs.Misplaced.{IsInPlace}

@@ -1,6 +1,6 @@
 -- Lists of numbers that may hold only some numbers, and each of them once.
 use Rattle.std.specs.Prelude.{◌≡◌, ℕ, ◌<◌, ◌||◌, Bool, true, false, not, List, length, take, slice_index}
-use Rattle.sg_sums.specs.Sets.{holds}
+use Rattle.sg_base.specs.Sets.{holds}
 
 -- whether the entry at place j is not an allowed number, or repeats an earlier one
 abbrev pub is_misplaced : (ℕ → Bool) → List ℕ → ℕ → Bool

@@ -1,4 +1,4 @@
-use sg_list::Records;
+use sg_base::Records;
 
 /// A bond: two different spins, by number, and the coupling between them. A positive coupling
 /// favours equal spins.

@@ -4,7 +4,7 @@ ghost use Rattle.sg_model.specs.Rotation.{dart_count, tail, is_dart_of, darts_of
 ghost use Rattle.sg_model.specs.Misplaced.{IsInPlace, IsFirstMisplaced};
 ghost use Rattle.sg_model.specs.BadRotation.{IsBadRotation};
 ghost use Rattle.sg_model.specs.BadSeam.{is_bond, IsBadSeam};
-ghost use Rattle.sg_sums.specs.Sets.{is_marked};
+ghost use Rattle.sg_base.specs.Sets.{is_marked};
 ghost use Rattle.sg_model.specs.Marks.{AllMarked, MarksList, MarksSpins, IsLeastUnmarked};
 ghost use Rattle.sg_model.specs.Seam.{IsSeam};
 ghost use Rattle.sg_model.specs.WellFormed.{IsDraft};

@@ -3,7 +3,7 @@ ghost use Rattle.std.specs.List.{range_with_len};
 ghost use Rattle.sg_model.specs.Ising.{IsBond, bond_count};
 ghost use Rattle.sg_model.specs.WellFormed.{IsInstance};
 ghost use Rattle.sg_model.specs.Faults.{IsRefusalOf, OrNoMemory};
-ghost use Rattle.sg_sums.specs.Sets.{holds, is_marked};
+ghost use Rattle.sg_base.specs.Sets.{holds, is_marked};
 ghost use Rattle.sg_model.specs.Changes.{HasSameEnds, coupled_bonds, flipped_at, negated, opposite, recoupled, with_bonds, with_coupling, with_couplings, with_seam, with_seam_flipped};
 ghost use Rattle.sg_model.specs.Energy.{energy, product, weight as weight_of};
 

@@ -25,7 +25,7 @@ pub use bond::{Bond, Bonds};
 pub use instance::Instance;
 pub use plain::least_plain;
 pub use refusal::{Fault, Refusal};
-use sg_list::{Lists, Numbers};
+use sg_base::{Lists, Numbers};
 pub use spins::Spins;
 use std::alloc::AllocError;
 

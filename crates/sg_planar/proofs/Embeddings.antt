@@ -6,11 +6,11 @@ use Rattle.std.proofs.lemmas.List.FromFn.{get_or-range_with_len, length-range_wi
 use Rattle.std.specs.List.{range_with_len, list_any}
 use Rattle.sg_model.proofs.DartPairs.{dart_cases}
 use Rattle.sg_planar.proofs.SpanningTrees.{Reaches}
-use Rattle.sg_sums.proofs.ListLaws.{place_of_any}
-use Rattle.sg_sums.proofs.ParityLaws.{xor_self, parity_below-same, parity_below-xor}
-use Rattle.sg_sums.proofs.Recounting.{All_range}
-use Rattle.sg_sums.specs.Ends.{EndsBelow}
-use Rattle.sg_sums.specs.Parity.{xor, parity_below}
+use Rattle.sg_base.proofs.ListLaws.{place_of_any}
+use Rattle.sg_base.proofs.ParityLaws.{xor_self, parity_below-same, parity_below-xor}
+use Rattle.sg_base.proofs.Recounting.{All_range}
+use Rattle.sg_base.specs.Ends.{EndsBelow}
+use Rattle.sg_base.specs.Parity.{xor, parity_below}
 
 -- some number below n passes
 abbrev any_below : (ℕ → Bool) → ℕ → Bool

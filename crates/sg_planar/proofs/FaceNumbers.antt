@@ -2,8 +2,8 @@
 use Rattle.std.proofs.Common.{inl, inr, ◌≡◌, ◌⊎◌, ◌∙◌, sym, ap, refl, ℕ, zero, suc, ◌+◌, ◌<◌, ◌≤◌, Bool, true, false, cond, leb, arith, get_or}
 use Rattle.std.specs.List.{list_all, range_with_len}
 use Rattle.std.proofs.lemmas.Bool.{cases_Bool, cases_lt, le-leb, true≢false}
-use Rattle.sg_sums.proofs.DealtSums.{sum_by_range}
-use Rattle.sg_sums.proofs.Ranks.{rank, at_rank, rank_less}
+use Rattle.sg_base.proofs.DealtSums.{sum_by_range}
+use Rattle.sg_base.proofs.Ranks.{rank, at_rank, rank_less}
 use Rattle.sg_model.specs.Ising.{Ising}
 use Rattle.sg_model.specs.Rotation.{dart_count}
 use Rattle.sg_model.specs.WellFormed.{IsInstance}

@@ -3,12 +3,12 @@
 use Rattle.std.proofs.Common.{inl, inr, ap₂, ◌≡◌, ℕ, ◌+◌, ◌*◌, ◌%◌, ◌<◌, pos, Bool, true, false, cond, ◌&&◌, List, refl, sym, ◌∙◌, ap, arith, get_or, length, ◌↔◌}
 use Rattle.std.specs.List.{range_with_len}
 use Rattle.std.proofs.lemmas.Bool.{cases_eq}
-use Rattle.sg_sums.specs.Parity.{xor, odd, parity_below}
-use Rattle.sg_sums.specs.Sets.{holds, is_marked}
-use Rattle.sg_sums.specs.Ends.{is_end}
-use Rattle.sg_sums.proofs.ParityLaws.{parity_below-same, parity_below-xor, odd_is, odd-count_by, xor_cancel}
-use Rattle.sg_sums.proofs.Ranges.{parity_by_range}
-use Rattle.sg_sums.proofs.Recounting.{parity_below_by_pairs}
+use Rattle.sg_base.specs.Parity.{xor, odd, parity_below}
+use Rattle.sg_base.specs.Sets.{holds, is_marked}
+use Rattle.sg_base.specs.Ends.{is_end}
+use Rattle.sg_base.proofs.ParityLaws.{parity_below-same, parity_below-xor, odd_is, odd-count_by, xor_cancel}
+use Rattle.sg_base.proofs.Ranges.{parity_by_range}
+use Rattle.sg_base.proofs.Recounting.{parity_below_by_pairs}
 use Rattle.sg_model.specs.Ising.{Ising, bond_at, bond_count}
 use Rattle.sg_model.specs.Rotation.{dart_count, next, tail}
 use Rattle.sg_model.specs.WellFormed.{IsInstance}

@@ -18,10 +18,10 @@ use Rattle.sg_planar.proofs.FittingBonds.{fitting_follows}
 use Rattle.sg_planar.specs.BrokenLists.{BreaksExactly, FitsFaces}
 use Rattle.sg_planar.specs.Fit.{Embedding, IsPlanar}
 use Rattle.sg_planar.specs.Following.{is_unlike, FollowsBonds, value_of, IsWalkOrder, IsRight, HeadsRight, SetsHeads, HeadsSet, SetTo, TellsDown}
-use Rattle.sg_sums.proofs.RisingLists.{parity_of_rising}
-use Rattle.sg_sums.specs.Parity.{xor, parity_by}
-use Rattle.sg_sums.specs.Sets.{is_marked, Stands}
-use Rattle.sg_walk.specs.Walk.{IsFoundFrom}
+use Rattle.sg_base.proofs.RisingLists.{parity_of_rising}
+use Rattle.sg_base.specs.Parity.{xor, parity_by}
+use Rattle.sg_base.specs.Sets.{is_marked, Stands}
+use Rattle.sg_planar.specs.Walk.{IsFoundFrom}
 
 -- the marks of the negative bonds, turned at the bonds of the list
 pub unlike_marked : (inst : Ising) (list : List ℕ) → All (λ k. k < bond_count inst) list → IsStrictlyIncreasing list →

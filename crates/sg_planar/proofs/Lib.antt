@@ -13,3 +13,7 @@ pub mod NamedParts
 pub mod DealtNumbers
 pub mod PartPlaces
 pub mod OneFitness
+pub mod Searches
+pub mod SpinNames
+pub mod LeastSpins
+pub mod ComponentLaws

@@ -11,7 +11,7 @@ use Rattle.std.specs.List.Sorted.{IsStrictlyIncreasing}
 use Rattle.std.specs.Prelude.{unsigned_abs, ◌-ℤ◌, ◌-◌}
 use Rattle.sg_faces.specs.Euler.{IsEuler}
 use Rattle.sg_faces.specs.Faces.{face_count, IsFaceLabels, Labelling}
-use Rattle.sg_limits.specs.Limits.{forced_limit}
+use Rattle.sg_base.specs.Limits.{forced_limit}
 use Rattle.sg_model.proofs.LeastSpins.{connected_leasts, one_list}
 use Rattle.sg_model.proofs.Paths.{reached_back, reached_on, reached_by_bond}
 use Rattle.sg_model.specs.Connected.{IsConnected, Reached, all_bonds, AreLeasts, IsLeastReached}
@@ -26,16 +26,16 @@ use Rattle.sg_planar.specs.Fit.{Embedding, IsPlanar}
 use Rattle.sg_planar.specs.Parts.{place_in, bond_in, AreParts, IsPart, restricted, times_in}
 use Rattle.sg_planar.specs.Splitting.{IsClosedPart, IsNaming, component, named_bonds, named_spins, own_names, ArePlaces, IsSplit}
 use Rattle.sg_planar.specs.declared.components.Part.{Part}
-use Rattle.sg_sums.proofs.Choosing.{chosen_below_no, chosen_below_yes, chosen_below_same}
-use Rattle.sg_sums.proofs.DealtSums.{dealt_out, met_each, sum_by_range}
-use Rattle.sg_sums.proofs.ListLaws.{sum_by-map_of, filter-never}
-use Rattle.sg_sums.proofs.MemberSums.{members_sum}
-use Rattle.sg_sums.proofs.OneMore.{rising_order}
-use Rattle.sg_sums.proofs.RisingLists.{chosen_below_low, chosen_below_rises, holds-chosen_below, chosen_below_pass}
-use Rattle.sg_sums.proofs.SumLaws.{sum_below-add, at-le-sum_below, sum_by_is_sum_below, sum_below-same, sum_below_pick}
-use Rattle.sg_sums.proofs.Tallies.{sum_below_ones, sum_below_times}
-use Rattle.sg_sums.specs.Sets.{holds, chosen_below}
-use Rattle.sg_sums.specs.Sums.{sum_below}
+use Rattle.sg_base.proofs.Choosing.{chosen_below_no, chosen_below_yes, chosen_below_same}
+use Rattle.sg_base.proofs.DealtSums.{dealt_out, met_each, sum_by_range}
+use Rattle.sg_base.proofs.ListLaws.{sum_by-map_of, filter-never}
+use Rattle.sg_base.proofs.MemberSums.{members_sum}
+use Rattle.sg_base.proofs.OneMore.{rising_order}
+use Rattle.sg_base.proofs.RisingLists.{chosen_below_low, chosen_below_rises, holds-chosen_below, chosen_below_pass}
+use Rattle.sg_base.proofs.SumLaws.{sum_below-add, at-le-sum_below, sum_by_is_sum_below, sum_below-same, sum_below_pick}
+use Rattle.sg_base.proofs.Tallies.{sum_below_ones, sum_below_times}
+use Rattle.sg_base.specs.Sets.{holds, chosen_below}
+use Rattle.sg_base.specs.Sums.{sum_below}
 
 -- where no number passes none is chosen
 chosen_none : (p : ℕ → Bool) (n : ℕ) → ((k : ℕ) → k < n → p k ≡ false) → chosen_below p n ≡ []

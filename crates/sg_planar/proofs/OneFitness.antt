@@ -1,6 +1,6 @@
 -- An instance that is fit is not unfit, and one that is unfit is so by one refusal.
 use Rattle.std.proofs.Common.{◌≡◌, ◌⊎◌, inl, inr, ◌<◌, ◌≤◌, ℤ, pos, refl, sym, ap, ◌∙◌, arith}
-use Rattle.sg_limits.specs.Limits.{sum_limit}
+use Rattle.sg_base.specs.Limits.{sum_limit}
 use Rattle.sg_model.specs.declared.refusal.Refusal.{Refusal}
 use Rattle.sg_model.specs.declared.refusal.Refusal.TheVariants.{NotPlanar, SumTooLarge}
 use Rattle.sg_model.specs.Ising.{Ising}

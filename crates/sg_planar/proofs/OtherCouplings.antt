@@ -7,7 +7,7 @@ use Rattle.std.proofs.lemmas.List.FromFn.{get_or-map-range_with_len, length-map-
 use Rattle.std.proofs.lemmas.List.Sums.{get_or-le-sum_by, sum_by-set}
 use Rattle.std.specs.List.{range_with_len}
 use Rattle.sg_faces.proofs.SameFaces.{is_euler_same, faces_same}
-use Rattle.sg_limits.specs.Limits.{forced_limit}
+use Rattle.sg_base.specs.Limits.{forced_limit}
 use Rattle.sg_model.proofs.Recoupled.{coupled_at_place, couplings_ends, flipped_ends, negated_ends, coupling_ends}
 use Rattle.sg_model.proofs.SameEnds.{recoupled_instance}
 use Rattle.sg_model.specs.Changes.{HasSameDrawing, HasSameEnds, coupled_at, coupled_bonds, flipped_at, negated, opposite, recoupled, with_bonds, with_coupling, with_couplings, with_seam_flipped}
@@ -16,11 +16,11 @@ use Rattle.sg_model.specs.Ising.{Ising, bond_at, bond_count}
 use Rattle.sg_model.specs.WellFormed.{IsInstance}
 use Rattle.sg_model.specs.declared.bond.Bond.{Bond}
 use Rattle.sg_planar.specs.Fit.{Embedding, IsPlanar, IsRedrawn}
-use Rattle.sg_sums.proofs.ListLaws.{sum_by-agree, sum_by-map_of}
-use Rattle.sg_sums.proofs.SumLaws.{sum_by_is_sum_below, sum_below-same}
-use Rattle.sg_sums.specs.Sums.{sum_below}
-use Rattle.sg_walk.proofs.ComponentLaws.{components_same}
-use Rattle.sg_walk.specs.Naming.{AreComponents}
+use Rattle.sg_base.proofs.ListLaws.{sum_by-agree, sum_by-map_of}
+use Rattle.sg_base.proofs.SumLaws.{sum_by_is_sum_below, sum_below-same}
+use Rattle.sg_base.specs.Sums.{sum_below}
+use Rattle.sg_planar.proofs.ComponentLaws.{components_same}
+use Rattle.sg_planar.specs.Naming.{AreComponents}
 
 abbrev no_bond : Bond
 no_bond = record { u = 0; v = 0; j = pos 0 }

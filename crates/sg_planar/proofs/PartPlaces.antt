@@ -2,14 +2,14 @@
 use Rattle.std.proofs.Common.{◌≡◌, ◌∙◌, ap, ap₂, refl, subst, ℕ, ◌+◌, ◌*◌, ◌/◌, ◌<◌, pos, true, List, [], ◌∷◌, ◌++◌, length, get_or, map, slice_index, take, All, arith}
 use Rattle.std.proofs.lemmas.List.{get_or-map, length-map, map-append, take_more}
 use Rattle.std.proofs.lemmas.List.Elements.{All-from_get_or, All-head, All-map, All-tail}
-use Rattle.sg_sums.specs.Sets.{holds}
+use Rattle.sg_base.specs.Sets.{holds}
 use Rattle.sg_model.specs.declared.bond.Bond.{Bond}
 use Rattle.sg_model.specs.Ising.{Ising, bond_at, bond_count}
 use Rattle.sg_model.specs.Rotation.{darts_of}
 use Rattle.sg_model.specs.WellFormed.{IsInstance}
 use Rattle.sg_model.specs.Connected.{all_bonds}
 use Rattle.sg_model.proofs.Rotations.{in_list}
-use Rattle.sg_walk.specs.Naming.{AllNamed}
+use Rattle.sg_planar.specs.Naming.{AllNamed}
 use Rattle.sg_planar.specs.Parts.{bond_in, dart_in, restricted}
 use Rattle.sg_planar.specs.Splitting.{ArePlaces, IsClosedPart, IsDealt, IsNaming, IsSplit, placed_bond, placed_darts}
 use Rattle.sg_planar.proofs.Places.{holds_entry}

@@ -6,12 +6,12 @@ use Rattle.std.proofs.lemmas.List.Sums.{position_or_len_is}
 use Rattle.std.specs.List.Sorted.{IsStrictlyIncreasing}
 use Rattle.sg_model.proofs.EachOnce.{place_held}
 use Rattle.sg_planar.specs.Parts.{place_in}
-use Rattle.sg_sums.proofs.MemberSums.{members_sum}
-use Rattle.sg_sums.proofs.OneMore.{rising_order}
-use Rattle.sg_sums.proofs.RisingLists.{All-holds, chosen_below_low, holds-chosen_below}
-use Rattle.sg_sums.proofs.SumLaws.{sum_by_is_sum_below, sum_below-le}
-use Rattle.sg_sums.proofs.Tallies.{sum_below_ones, cond_small}
-use Rattle.sg_sums.specs.Sets.{holds, chosen_below}
+use Rattle.sg_base.proofs.MemberSums.{members_sum}
+use Rattle.sg_base.proofs.OneMore.{rising_order}
+use Rattle.sg_base.proofs.RisingLists.{All-holds, chosen_below_low, holds-chosen_below}
+use Rattle.sg_base.proofs.SumLaws.{sum_by_is_sum_below, sum_below-le}
+use Rattle.sg_base.proofs.Tallies.{sum_below_ones, cond_small}
+use Rattle.sg_base.specs.Sets.{holds, chosen_below}
 
 module _ (xs : List ℕ) (up : IsStrictlyIncreasing xs) where
   -- the entry at a place has that place

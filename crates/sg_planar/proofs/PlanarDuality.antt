@@ -3,11 +3,11 @@
 use Rattle.std.proofs.Common.{ap₂, ◌≡◌, ℕ, zero, suc, ◌+◌, ◌*◌, ◌<◌, ◌≤◌, Bool, false, ◌&&◌, eqb, ◌++◌, refl, sym, ◌∙◌, ap, arith, All, length, length-append}
 use Rattle.std.proofs.lemmas.List.FromFn.{length-range_with_len}
 use Rattle.std.proofs.lemmas.List.Sorted.{length_permutation}
-use Rattle.sg_sums.specs.Parity.{xor, parity_below}
-use Rattle.sg_sums.specs.Ends.{is_end}
-use Rattle.sg_sums.proofs.ParityLaws.{xor_cancel, parity_below-same, parity_below-xor}
-use Rattle.sg_sums.proofs.Ranges.{parity_by_range}
-use Rattle.sg_sums.proofs.Recounting.{All_range_at}
+use Rattle.sg_base.specs.Parity.{xor, parity_below}
+use Rattle.sg_base.specs.Ends.{is_end}
+use Rattle.sg_base.proofs.ParityLaws.{xor_cancel, parity_below-same, parity_below-xor}
+use Rattle.sg_base.proofs.Ranges.{parity_by_range}
+use Rattle.sg_base.proofs.Recounting.{All_range_at}
 use Rattle.sg_planar.proofs.SpanningTrees.{count_outside, count_outside-joined, joined, Reaches, Span, span, of_both, of_rest, in_rest, in_tree}
 use Rattle.sg_planar.proofs.Embeddings.{root, IsEmbedding, first, second, bonds, SpinsConnected, spin_ends, face_ends, cuts_meet_evenly, one_colour}
 

@@ -19,12 +19,12 @@ use Rattle.sg_model.specs.WellFormed.{IsInstance}
 use Rattle.sg_planar.proofs.Places.{entry_back, place_below, place_of_entry, places_apart, holds_entry, rising_few}
 use Rattle.sg_planar.specs.Parts.{place_in, dart_in, bond_in, restricted}
 use Rattle.sg_planar.specs.Splitting.{IsClosedPart}
-use Rattle.sg_sums.proofs.DealtSums.{sum_by_range, sum_below_by_pairs}
-use Rattle.sg_sums.proofs.ListLaws.{sum_by-map_of}
-use Rattle.sg_sums.proofs.OneMore.{rising_order}
-use Rattle.sg_sums.proofs.SumLaws.{sum_by-same, sum_below-same, sum_by_is_sum_below}
-use Rattle.sg_sums.specs.Sets.{holds}
-use Rattle.sg_sums.specs.Sums.{sum_below}
+use Rattle.sg_base.proofs.DealtSums.{sum_by_range, sum_below_by_pairs}
+use Rattle.sg_base.proofs.ListLaws.{sum_by-map_of}
+use Rattle.sg_base.proofs.OneMore.{rising_order}
+use Rattle.sg_base.proofs.SumLaws.{sum_by-same, sum_below-same, sum_by_is_sum_below}
+use Rattle.sg_base.specs.Sets.{holds}
+use Rattle.sg_base.specs.Sums.{sum_below}
 
 -- ---- a map of bonds as a map of their darts
 

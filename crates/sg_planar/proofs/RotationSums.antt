@@ -5,13 +5,13 @@ use Rattle.std.specs.List.{range_with_len}
 use Rattle.std.proofs.Math.Nat.{mod_self, mod-eq_of_lt}
 use Rattle.std.proofs.lemmas.List.Elements.{All-from_get_or}
 use Rattle.std.proofs.lemmas.Bool.{lt-ltb}
-use Rattle.sg_sums.specs.Parity.{xor, odd, parity_by, parity_below}
-use Rattle.sg_sums.proofs.ParityLaws.{odd-count_by, parity_by-same, parity_below-same, parity_below_pick, parity_exchange}
-use Rattle.sg_sums.proofs.Ranges.{parity_by_range}
-use Rattle.sg_sums.proofs.Recounting.{parity_below_first, parity_by_index, parity_by_counts, parity_below_by_pairs, All_range_at}
+use Rattle.sg_base.specs.Parity.{xor, odd, parity_by, parity_below}
+use Rattle.sg_base.proofs.ParityLaws.{odd-count_by, parity_by-same, parity_below-same, parity_below_pick, parity_exchange}
+use Rattle.sg_base.proofs.Ranges.{parity_by_range}
+use Rattle.sg_base.proofs.Recounting.{parity_below_first, parity_by_index, parity_by_counts, parity_below_by_pairs, All_range_at}
 use Rattle.sg_model.specs.Ising.{Ising, bond_at, bond_count}
 use Rattle.sg_model.specs.Rotation.{dart_count, tail, is_dart_of, darts_of, following, next}
-use Rattle.sg_sums.specs.Sets.{DifferByCount}
+use Rattle.sg_base.specs.Sets.{DifferByCount}
 use Rattle.sg_model.specs.WellFormed.{IsInstance}
 use Rattle.sg_model.specs.Connected.{JoinedBy, IsWalk, Reached, IsConnected, all_bonds}
 use Rattle.sg_model.proofs.Darts.{tail_first, tail_second, rev_first, rev_second}

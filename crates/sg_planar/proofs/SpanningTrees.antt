@@ -5,12 +5,12 @@ use Rattle.std.specs.List.Sorted.{IsPermutation}
 use Rattle.std.proofs.lemmas.List.Elements.{All-append, All-head, All-tail, All-cons, All-nil, All-weaker}
 use Rattle.std.proofs.lemmas.List.Sorted.{IsPermutation-refl, IsPermutation-sym, IsPermutation-trans, IsPermutation-cons, IsPermutation-middle, All-permutation}
 use Rattle.std.proofs.lemmas.Bool.{eq-eqb, ne_eqb, cases_Bool, true≢false, or_left, or_right, or_parts}
-use Rattle.sg_sums.specs.Parity.{xor, parity_by}
-use Rattle.sg_sums.specs.Sums.{sum_below}
-use Rattle.sg_sums.specs.Ends.{is_end, degree_parity, EndsBelow}
-use Rattle.sg_sums.proofs.ParityLaws.{xor_cancel, xor-false, and-true, and-false, parity_by-none, parity_by-append}
-use Rattle.sg_sums.proofs.SumLaws.{sum_below-zero, sum_below-same}
-use Rattle.sg_sums.proofs.Recounting.{parity_by-permutation}
+use Rattle.sg_base.specs.Parity.{xor, parity_by}
+use Rattle.sg_base.specs.Sums.{sum_below}
+use Rattle.sg_base.specs.Ends.{is_end, degree_parity, EndsBelow}
+use Rattle.sg_base.proofs.ParityLaws.{xor_cancel, xor-false, and-true, and-false, parity_by-none, parity_by-append}
+use Rattle.sg_base.proofs.SumLaws.{sum_below-zero, sum_below-same}
+use Rattle.sg_base.proofs.Recounting.{parity_by-permutation}
 
 -- how many of the numbers below n are outside A
 abbrev pub count_outside : (ℕ → Bool) → ℕ → ℕ

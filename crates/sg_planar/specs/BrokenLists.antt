@@ -1,6 +1,6 @@
 -- Lists of bonds as the broken bonds of an assignment (Toulouse 1977).
 use Rattle.std.specs.Prelude.{◌≡◌, ℕ, ◌%◌, ◌<◌, ℤ, List}
-use Rattle.sg_sums.specs.Sets.{holds}
+use Rattle.sg_base.specs.Sets.{holds}
 use Rattle.sg_model.specs.Ising.{Ising, bond_at, bond_count}
 use Rattle.sg_model.specs.Broken.{is_broken, is_negative}
 use Rattle.sg_faces.specs.Faces.{Labelling}

@@ -8,7 +8,7 @@ use Rattle.sg_model.specs.Energy.{weight}
 use Rattle.sg_model.specs.Changes.{HasSameDrawing}
 use Rattle.sg_faces.specs.Faces.{Labelling, IsFaceLabels}
 use Rattle.sg_faces.specs.Euler.{IsEuler}
-use Rattle.sg_limits.specs.Limits.{sum_limit, forced_limit}
+use Rattle.sg_base.specs.Limits.{sum_limit, forced_limit}
 
 -- the two facts that every planar solver requires
 pub record IsFit (inst : Ising) : Type 0 where

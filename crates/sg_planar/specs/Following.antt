@@ -1,12 +1,12 @@
 -- Spins that follow the bonds: which bonds are to join opposite spins, and how a walk gives the spins their values.
 use Rattle.std.specs.Prelude.{◌≡◌, ℕ, ◌<◌, ℤ, pos, negsuc, Bool, false, cond, List, length, slice_index, All}
-use Rattle.sg_sums.specs.Parity.{xor}
-use Rattle.sg_sums.specs.Sets.{holds, is_marked, Stands}
+use Rattle.sg_base.specs.Parity.{xor}
+use Rattle.sg_base.specs.Sets.{holds, is_marked, Stands}
 use Rattle.sg_model.specs.Ising.{Ising, bond_at, bond_count}
 use Rattle.sg_model.specs.Rotation.{darts_of, head_of}
 use Rattle.sg_model.specs.Broken.{is_negative}
 use Rattle.sg_model.specs.Connected.{all_bonds}
-use Rattle.sg_walk.specs.Walk.{IsFoundFrom}
+use Rattle.sg_planar.specs.Walk.{IsFoundFrom}
 
 -- a bond joins opposite spins if it is negative or broken, and not both
 abbrev pub is_unlike : Ising → List ℕ → ℕ → Bool

@@ -4,3 +4,6 @@ pub mod Splitting
 pub mod BrokenLists
 pub mod Following
 pub mod Sides
+pub mod Walk
+pub mod Search
+pub mod Naming

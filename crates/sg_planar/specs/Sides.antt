@@ -1,6 +1,6 @@
 -- The sides of marked bonds on a face, up to an even number.
 use Rattle.std.specs.Prelude.{ℕ, ◌/◌, ◌==◌, ◌&&◌, Bool, List, slice_index}
-use Rattle.sg_sums.specs.Sets.{is_marked}
+use Rattle.sg_base.specs.Sets.{is_marked}
 use Rattle.sg_faces.specs.Faces.{Labelling}
 
 -- whether dart d lies on face f and belongs to a marked bond

@@ -1,6 +1,6 @@
 ghost use Rattle.std.specs.Prelude.{◌≡◌, ℕ, ◌<◌, pos, length, map, vec_len, All, IfOk};
 ghost use Rattle.std.specs.List.Sorted.{IsStrictlyIncreasing};
-ghost use Rattle.sg_sums.specs.Sets.{is_marked};
+ghost use Rattle.sg_base.specs.Sets.{is_marked};
 ghost use Rattle.sg_model.specs.Ising.{bond_count};
 ghost use Rattle.sg_model.specs.Rotation.{dart_count, darts_of, tail};
 ghost use Rattle.sg_model.specs.Connected.{IsConnected};
@@ -9,10 +9,9 @@ ghost use Rattle.sg_model.specs.Broken.{is_negative};
 ghost use Rattle.sg_planar.specs.BrokenLists.{BreaksExactly, FitsFaces};
 ghost use Rattle.sg_planar.specs.Following.{HeadsSet, IsWalkOrder, TellsDown, is_unlike, value_of};
 
-use super::{NoMemory, Planar};
+use super::{NoMemory, Planar, head, walk};
+use sg_base::flip;
 use sg_model::{Bond, BondList, Instance, Spins};
-use sg_sums::flip;
-use sg_walk::{head, walk};
 use std::alloc::Global;
 
 /// The assignment of a connected instance with spin 0 up that breaks the bonds of the list and no

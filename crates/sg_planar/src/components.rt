@@ -4,18 +4,17 @@ ghost use Rattle.sg_model.specs.Rotation.{darts_of};
 ghost use Rattle.sg_model.specs.Connected.{IsConnected, all_bonds};
 ghost use Rattle.sg_model.specs.WellFormed.{IsInstance};
 ghost use Rattle.sg_faces.specs.Faces.{IsFaceLabels, Labelling};
-ghost use Rattle.sg_walk.specs.Naming.{AllNamed};
+ghost use Rattle.sg_planar.specs.Naming.{AllNamed};
 ghost use Rattle.sg_planar.specs.Fit.{IsPlanar};
 ghost use Rattle.sg_planar.specs.declared.components.Division.TheVariants.{Whole};
 ghost use Rattle.sg_planar.specs.Parts.{AreParts, IsDivision, IsPart, restricted};
 ghost use Rattle.sg_planar.specs.Splitting.{ArePlaces, IsClosedPart, IsSplit, placed_bond, placed_darts};
 
 use super::dealing::{Dealt, deal};
-use super::{NoMemory, Planar};
+use super::{Components, NoMemory, Planar};
+use sg_base::{Numbers, Records};
 use sg_faces::trace;
-use sg_list::{Numbers, Records};
 use sg_model::{Bond, BondList, Bonds, DartList, Instance, Rotation};
-use sg_walk::Components;
 use std::alloc::Global;
 
 /// Numbers of spins.

@@ -2,15 +2,14 @@ ghost use Rattle.std.specs.Prelude.{◌≡◌, ◌<◌, ◌^◌, ◌-ℤ◌, pos
 ghost use Rattle.sg_model.specs.Connected.{AreLeasts};
 ghost use Rattle.sg_faces.specs.Faces.{IsFaceLabels};
 ghost use Rattle.sg_faces.specs.Euler.{IsEuler};
-ghost use Rattle.sg_walk.specs.Naming.{AreComponents};
+ghost use Rattle.sg_planar.specs.Naming.{AreComponents};
 ghost use Rattle.sg_planar.specs.Fit.{IsFit, IsUnfit};
 ghost use Rattle.sg_model.specs.Faults.{OrNoMemory};
 
-use super::NoMemory;
+use super::{Components, NoMemory};
+use sg_base::SUM_LIMIT;
 use sg_faces::{Faces, trace};
-use sg_limits::SUM_LIMIT;
 use sg_model::{Fault, Instance, Refusal};
-use sg_walk::Components;
 use std::alloc::Global;
 
 fn difference(a: u64, b: u64) -> i64

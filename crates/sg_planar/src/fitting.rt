@@ -1,7 +1,7 @@
 ghost use Rattle.std.specs.Prelude.{◌≡◌, ◌↔◌, ℕ, ◌<◌, ◌≤◌, ◌*◌, ◌^◌, true, false, length, slice_index, vec_len, All, IfOk};
 ghost use Rattle.std.specs.List.Sorted.{IsStrictlyIncreasing};
-ghost use Rattle.sg_sums.specs.Parity.{parity_below};
-ghost use Rattle.sg_sums.specs.Sets.{is_marked};
+ghost use Rattle.sg_base.specs.Parity.{parity_below};
+ghost use Rattle.sg_base.specs.Sets.{is_marked};
 ghost use Rattle.sg_model.specs.Ising.{bond_count};
 ghost use Rattle.sg_planar.specs.BrokenLists.{FitsFaces};
 ghost use Rattle.sg_planar.specs.Sides.{is_marked_side};

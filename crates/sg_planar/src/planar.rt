@@ -1,18 +1,17 @@
 ghost use Rattle.std.specs.Prelude.{◌≡◌, ◌↔◌, ◌<◌, ◌≤◌, IsTrue, length, IfOk, IfErr};
-ghost use Rattle.sg_limits.specs.Limits.{forced_limit};
+ghost use Rattle.sg_base.specs.Limits.{forced_limit};
 ghost use Rattle.sg_model.specs.Ising.{bond_count};
 ghost use Rattle.sg_model.specs.Energy.{weight};
 ghost use Rattle.sg_model.specs.Changes.{negated, with_coupling, with_couplings, with_seam_flipped};
 ghost use Rattle.sg_model.specs.Connected.{IsConnected};
-ghost use Rattle.sg_walk.specs.Naming.{AreComponents};
+ghost use Rattle.sg_planar.specs.Naming.{AreComponents};
 ghost use Rattle.sg_planar.specs.Fit.{IsFit, IsPlanar, IsRedrawn, IsUnfit};
 ghost use Rattle.sg_model.specs.Faults.{OrNoMemory};
 
-use super::NoMemory;
 use super::fitness::{Drawing, judge};
+use super::{Components, NoMemory};
 use sg_faces::Faces;
 use sg_model::{Couplings, Fault, Instance};
-use sg_walk::Components;
 use std::alloc::Global;
 use std::marker::Model;
 
@@ -36,7 +35,7 @@ impl Drop for Planar {
 }
 
 impl Model for Planar {
-    ghost use Rattle.sg_walk.specs.Naming.{AreComponents};
+    ghost use Rattle.sg_planar.specs.Naming.{AreComponents};
     ghost use Rattle.sg_planar.specs.Fit.{Embedding, IsPlanar};
 
     ghost Value = { Embedding };

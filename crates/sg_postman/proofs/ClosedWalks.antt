@@ -4,12 +4,12 @@ use Rattle.std.proofs.Common.{◌≡◌, ◌∙◌, sym, ap, refl, ℕ, zero, su
 use Rattle.std.proofs.lemmas.Bool.{eqb-true, false≢true}
 use Rattle.std.proofs.lemmas.List.Elements.{All-head, All-tail}
 use Rattle.std.proofs.lemmas.List.Sums.{sum_by-cons}
-use Rattle.sg_sums.specs.Parity.{xor, odd, parity_by, parity_below}
-use Rattle.sg_sums.specs.Sets.{chosen_below, holds}
-use Rattle.sg_sums.specs.Sums.{sum_below}
-use Rattle.sg_sums.proofs.ParityLaws.{odd-count_by, odd_is, parity_below-same, parity_below-xor, xor_self}
-use Rattle.sg_sums.proofs.RisingLists.{holds-chosen_below, chosen_below_low, chosen_below_rises}
-use Rattle.sg_sums.proofs.SumLaws.{sum_below-add, sum_below-le, sum_below-same, sum_below-zero, sum_below_pick, sum_by_is_sum_below}
+use Rattle.sg_base.specs.Parity.{xor, odd, parity_by, parity_below}
+use Rattle.sg_base.specs.Sets.{chosen_below, holds}
+use Rattle.sg_base.specs.Sums.{sum_below}
+use Rattle.sg_base.proofs.ParityLaws.{odd-count_by, odd_is, parity_below-same, parity_below-xor, xor_self}
+use Rattle.sg_base.proofs.RisingLists.{holds-chosen_below, chosen_below_low, chosen_below_rises}
+use Rattle.sg_base.proofs.SumLaws.{sum_below-add, sum_below-le, sum_below-same, sum_below-zero, sum_below_pick, sum_by_is_sum_below}
 use Rattle.sg_graph.specs.Join.{IsJoin, IsLeastJoin}
 use Rattle.sg_graph.specs.Web.{Graph, degree_of, edge_count, edge_weight, ends_at, total_weight, weight_at, weight_of}
 use Rattle.sg_graph.proofs.Joins.{ends_parity}

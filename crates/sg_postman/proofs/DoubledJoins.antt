@@ -1,12 +1,12 @@
 -- A web with the edges of a join of its odd nodes doubled: all its degrees are even, and its Euler tours are the least tours.
 use Rattle.std.proofs.Common.{inl, inr, ◌≡◌, ◌⊎◌, ◌∙◌, sym, ap, ℕ, ◌+◌, ◌*◌, ◌%◌, ◌<◌, ℤ, pos, cond, Bool, true, false, List, refl, sum_by, arith}
-use Rattle.sg_sums.specs.Parity.{odd}
-use Rattle.sg_sums.specs.Sets.{holds}
-use Rattle.sg_sums.specs.Sums.{sum_below}
-use Rattle.sg_sums.proofs.MemberSums.{members_sum}
-use Rattle.sg_sums.proofs.ParityLaws.{odd_is}
-use Rattle.sg_sums.proofs.RisingLists.{holds-chosen_below}
-use Rattle.sg_sums.proofs.SumLaws.{sum_below-add, sum_below-same, sum_by_is_sum_below}
+use Rattle.sg_base.specs.Parity.{odd}
+use Rattle.sg_base.specs.Sets.{holds}
+use Rattle.sg_base.specs.Sums.{sum_below}
+use Rattle.sg_base.proofs.MemberSums.{members_sum}
+use Rattle.sg_base.proofs.ParityLaws.{odd_is}
+use Rattle.sg_base.proofs.RisingLists.{holds-chosen_below}
+use Rattle.sg_base.proofs.SumLaws.{sum_below-add, sum_below-same, sum_by_is_sum_below}
 use Rattle.sg_graph.specs.declared.cut.Cut.{Cut}
 use Rattle.sg_graph.specs.Join.{IsJoin, IsLeastJoin}
 use Rattle.sg_graph.specs.OddCut.{CutsPack, odd_cut_weight}

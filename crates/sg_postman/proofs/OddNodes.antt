@@ -2,15 +2,15 @@
 use Rattle.std.proofs.Common.{◌≡◌, ℕ, ◌%◌, ◌<◌, Bool, true, false, refl, sym, ◌∙◌, ap, List, length, count_by, pos}
 use Rattle.std.specs.List.{range_with_len}
 use Rattle.std.proofs.lemmas.List.Sums.{length-filter}
-use Rattle.sg_sums.specs.Ends.{EndsBelow, is_end}
-use Rattle.sg_sums.specs.Parity.{odd, parity_by, parity_below}
-use Rattle.sg_sums.proofs.Handshake.{handshake}
-use Rattle.sg_sums.proofs.ParityLaws.{even_mod, odd-count_by, parity_below-none, parity_below-same}
-use Rattle.sg_sums.proofs.Ranges.{parity_by_range}
-use Rattle.sg_sums.proofs.Recounting.{All_range}
-use Rattle.sg_sums.proofs.RisingLists.{chosen_below_low, chosen_below_rises}
-use Rattle.sg_sums.proofs.SumLaws.{sum_by_is_sum_below}
-use Rattle.sg_sums.proofs.Tallies.{sum_by-range}
+use Rattle.sg_base.specs.Ends.{EndsBelow, is_end}
+use Rattle.sg_base.specs.Parity.{odd, parity_by, parity_below}
+use Rattle.sg_base.proofs.Handshake.{handshake}
+use Rattle.sg_base.proofs.ParityLaws.{even_mod, odd-count_by, parity_below-none, parity_below-same}
+use Rattle.sg_base.proofs.Ranges.{parity_by_range}
+use Rattle.sg_base.proofs.Recounting.{All_range}
+use Rattle.sg_base.proofs.RisingLists.{chosen_below_low, chosen_below_rises}
+use Rattle.sg_base.proofs.SumLaws.{sum_by_is_sum_below}
+use Rattle.sg_base.proofs.Tallies.{sum_by-range}
 use Rattle.sg_graph.specs.Join.{AreTerminals}
 use Rattle.sg_graph.specs.Web.{Graph, IsWeb, degree_of, edge_count, ends_at, ends_on}
 use Rattle.sg_graph.proofs.Joins.{a_end, b_end, ends_parity}

@@ -3,7 +3,7 @@ use Rattle.std.proofs.Common.{inl, inr, ◌≡◌, ◌≢◌, ◌⊎◌, ◌∙�
 use Rattle.std.proofs.lemmas.Bool.{cases_eq, false_from_ne_true, eqb-true}
 use Rattle.std.proofs.lemmas.List.{get_or-set_same, get_or-set_other}
 use Rattle.std.proofs.lemmas.List.Sums.{sum_by-cons}
-use Rattle.sg_sums.proofs.SumLaws.{sum_below-add, sum_below-same, sum_below-zero, sum_below_pick}
+use Rattle.sg_base.proofs.SumLaws.{sum_below-add, sum_below-same, sum_below-zero, sum_below_pick}
 use Rattle.sg_graph.specs.Web.{Graph, IsWeb, edge_at, edge_count, ends_at, ends_on}
 use Rattle.sg_graph.specs.Walk.{Leads, IsWebWalk, IsConnectedWeb}
 use Rattle.sg_graph.specs.Incidence.{EndsAt}

@@ -1,7 +1,7 @@
 -- Closed walks over every edge of a graph: the tours of the postman (Guan 1960, Edmonds and Johnson 1973).
 use Rattle.std.specs.Prelude.{◌≡◌, ◌⊎◌, ℕ, ◌+◌, ◌*◌, ◌==◌, ◌<◌, ◌≤◌, ℤ, pos, true, List, [], ◌∷◌, count_by, map, sum_by}
-use Rattle.sg_sums.specs.Parity.{odd}
-use Rattle.sg_sums.specs.Sets.{chosen_below, holds}
+use Rattle.sg_base.specs.Parity.{odd}
+use Rattle.sg_base.specs.Sets.{chosen_below, holds}
 use Rattle.sg_graph.specs.declared.cut.Cut.{Cut}
 use Rattle.sg_graph.specs.OddCut.{CutsPack, odd_cut_weight}
 use Rattle.sg_graph.specs.Walk.{IsWebWalk, Leads}

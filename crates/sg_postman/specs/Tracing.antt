@@ -1,7 +1,7 @@
 -- A closed trail in the making (Hierholzer 1873): the copies of the edges that are left, a trail out from node 0, and
 -- the trail that is done.
 use Rattle.std.specs.Prelude.{◌≡◌, ℕ, ◌+◌, ◌-◌, slice_set, sum, ◌*◌, ◌%◌, ◌<◌, ◌==◌, cond, List, [], ◌∷◌, length, slice_index}
-use Rattle.sg_sums.specs.Sums.{sum_below}
+use Rattle.sg_base.specs.Sums.{sum_below}
 use Rattle.sg_graph.specs.Incidence.{EndsAt, list_at}
 use Rattle.sg_graph.specs.Walk.{other_end}
 use Rattle.sg_graph.specs.Web.{Graph, edge_at, edge_count, ends_at}

@@ -1,11 +1,11 @@
 ghost use Rattle.std.specs.Prelude.{◌≡◌, ◌==◌, ◌<◌, ℕ, length, IfOk};
-ghost use Rattle.sg_sums.specs.Parity.{xor};
-ghost use Rattle.sg_sums.specs.Sets.{is_marked};
+ghost use Rattle.sg_base.specs.Parity.{xor};
+ghost use Rattle.sg_base.specs.Sets.{is_marked};
 ghost use Rattle.sg_postman.specs.Tour.{odd_nodes};
 
 use super::NoMemory;
+use sg_base::places;
 use sg_graph::{Terminals, Web};
-use sg_sums::places;
 use std::alloc::Global;
 
 /// The nodes at which an odd number of edges end, an edge to itself twice, in time linear in nodes and

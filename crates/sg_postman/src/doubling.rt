@@ -1,6 +1,6 @@
 ghost use Rattle.std.specs.Prelude.{◌≡◌, ℕ, ◌+◌, ◌<◌, ◌≤◌, ◌^◌, cond, length, pos, sum_by, All, IfOk};
 ghost use Rattle.sg_graph.specs.Web.{weight_at};
-ghost use Rattle.sg_sums.specs.Sets.{holds};
+ghost use Rattle.sg_base.specs.Sets.{holds};
 ghost use Rattle.sg_postman.specs.Tracing.{left_of};
 
 use super::NoMemory;

@@ -24,7 +24,7 @@ mod steps;
 ghost use Rattle.std.specs.Prelude.{◌≤◌, IfOk};
 ghost use Rattle.sg_graph.specs.Walk.{IsConnectedWeb};
 ghost use Rattle.sg_graph.specs.Web.{total_weight};
-ghost use Rattle.sg_limits.specs.Limits.{forced_limit};
+ghost use Rattle.sg_base.specs.Limits.{forced_limit};
 ghost use Rattle.sg_postman.specs.Tour.{IsLeastTour};
 
 use degrees::odd_nodes;

@@ -1,5 +1,5 @@
+use sg_base::Numbers;
 use sg_graph::Cuts;
-use sg_list::Numbers;
 
 /// A step of a walk: over this edge to this node.
 #[derive(Clone, Copy, Debug)]

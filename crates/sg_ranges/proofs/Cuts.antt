@@ -15,7 +15,7 @@ use Rattle.sg_model.specs.Connected.{LeastsUp, all_bonds}
 use Rattle.sg_model.proofs.Recoupled.{negated_ends}
 use Rattle.sg_model.proofs.SamePaths.{reached_same}
 use Rattle.sg_model.proofs.BrokenEnergy.{HasUnitEnds, unit_ends}
-use Rattle.sg_limits.specs.Limits.{forced_limit}
+use Rattle.sg_base.specs.Limits.{forced_limit}
 use Rattle.sg_check.specs.declared.packing.Loop.{Loop}
 use Rattle.sg_check.specs.Packing.{Proves}
 use Rattle.sg_ranges.specs.Cut.{IsLargestCut, coupling_sum, cut_weight, is_cut}

@@ -2,7 +2,7 @@ ghost use Rattle.std.specs.Prelude.{◌≡◌, ◌<◌, ◌≤◌, ◌+ℤ◌, �
 ghost use Rattle.sg_model.specs.Ising.{IsBond};
 ghost use Rattle.sg_model.specs.Spins.{IsAssignment};
 ghost use Rattle.sg_check.specs.Packing.{IsShort, Proves};
-ghost use Rattle.sg_limits.specs.Limits.{forced_limit};
+ghost use Rattle.sg_base.specs.Limits.{forced_limit};
 ghost use Rattle.sg_model.specs.Changes.{negated};
 ghost use Rattle.sg_model.specs.Connected.{LeastsUp};
 ghost use Rattle.sg_model.specs.Energy.{weight};

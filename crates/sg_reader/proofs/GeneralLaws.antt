@@ -20,7 +20,7 @@ use Rattle.sg_reader.proofs.EndedLaws.{end-fault}
 use Rattle.sg_reader.proofs.ReadLaws.{body-fault, body-states}
 use Rattle.sg_reader.specs.declared.header.Header.TheVariants as header
 use Rattle.sg_reader.specs.declared.general.GeneralBody.{GeneralBody}
-use Rattle.sg_limits.specs.Limits.{bond_limit}
+use Rattle.sg_base.specs.Limits.{bond_limit}
 use Rattle.sg_reader.specs.Kept.{Kept}
 use Rattle.sg_draft.specs.Tests.{Refuses, refuse_if}
 use Rattle.sg_reader.specs.Tests.{any_index, field_count_fault, fields_fault, field_fault, size_in, spin_below}

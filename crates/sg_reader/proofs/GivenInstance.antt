@@ -6,7 +6,7 @@ use Rattle.std.proofs.lemmas.Bool.{and_parts, eqb-false, eqb-true, ltb-false, no
 use Rattle.std.proofs.lemmas.List.{length-append, take_all, take_more}
 use Rattle.std.proofs.lemmas.List.Elements.{All-append, All-cons, All-nil}
 use Rattle.std.proofs.lemmas.Option.{none-some, same_Some}
-use Rattle.sg_limits.specs.Limits.{bond_limit, spin_limit}
+use Rattle.sg_base.specs.Limits.{bond_limit, spin_limit}
 use Rattle.sg_model.specs.Ising.{IsBond, Ising, bond_count}
 use Rattle.sg_model.specs.Rotation.{IsRotation}
 use Rattle.sg_model.specs.WellFormed.{IsDraft}

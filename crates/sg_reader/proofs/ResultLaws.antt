@@ -11,7 +11,7 @@ use Rattle.sg_reader.specs.Kept.{Kept, begins}
 use Rattle.sg_reader.specs.Tests.{number_in, field_count_fault, word_fault}
 use Rattle.sg_draft.specs.Tests.{Refuses}
 use Rattle.sg_reader.specs.Body.{says_end, numbers_from}
-use Rattle.sg_limits.specs.Limits.{text_limit}
+use Rattle.sg_base.specs.Limits.{text_limit}
 use Rattle.sg_reader.specs.declared.result.LoopsBody.{LoopsBody}
 use Rattle.sg_reader.specs.Ended.{IsEnded, RefusesRecords, StatesToEnd, Fails, RefusesNext, TakesNext}
 use Rattle.sg_reader.specs.Result.{HoldsLoops, energy_fault, loop_fault, stated_loop, loops_fault, stated_loops, result_fault, result_of, spins_fault, ReadsResult, RefusesResult}

@@ -4,7 +4,7 @@ use Rattle.std.specs.Prelude.{ℕ, ◌*◌, ◌≤◌, if◌then◌else◌, List
 use Rattle.std.specs.Str.{bytes_eq}
 use Rattle.sg_model.specs.declared.refusal.Refusal.{Refusal}
 use Rattle.sg_model.specs.declared.refusal.Refusal.TheVariants.{UnknownKind}
-use Rattle.sg_limits.specs.Limits.{spin_limit}
+use Rattle.sg_base.specs.Limits.{spin_limit}
 use Rattle.sg_lattice.specs.declared.kind.Kind.TheVariants.{Square, Triangular, Hexagonal, Cylinder}
 use Rattle.sg_lattice.specs.Tables.{IsSize, least_cols}
 use Rattle.sg_reader.specs.declared.header.Form.{Form}

@@ -1,7 +1,7 @@
 -- Which instance records give, or why they are refused: the first test that one fails, in the order of the records.
 use Rattle.std.specs.Prelude.{◌≡◌, ◌≤◌, List, [], ◌∷◌, All, length, map, Some, None}
 use Rattle.std.specs.List.{range_with_len}
-use Rattle.sg_limits.specs.Limits.{bond_limit, spin_limit}
+use Rattle.sg_base.specs.Limits.{bond_limit, spin_limit}
 use Rattle.sg_model.specs.declared.refusal.Refusal.{Refusal}
 use Rattle.sg_model.specs.declared.refusal.Refusal.TheVariants.{Unended}
 use Rattle.sg_model.specs.Ising.{IsBond, Ising, bond_count}

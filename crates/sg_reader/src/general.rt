@@ -1,5 +1,5 @@
 ghost use Rattle.std.specs.Prelude.{Bool, ◌≡◌, ◌≢◌, ◌<◌, ◌≤◌, [], ◌^◌, List, true, None, Some, length, map, IfOk, IfErr, OnOk};
-ghost use Rattle.sg_limits.specs.Limits.{bond_limit};
+ghost use Rattle.sg_base.specs.Limits.{bond_limit};
 ghost use Rattle.sg_model.specs.Ising.{IsBond};
 ghost use Rattle.sg_model.specs.WellFormed.{IsInstance};
 ghost use Rattle.sg_reader.specs.declared.header.Header.TheVariants as header;
@@ -16,8 +16,8 @@ use super::ended::{Gather, read_to_end};
 use super::range::Range;
 use super::row::Row;
 use super::rows::Rows;
+use sg_base::Records;
 use sg_draft::{Limits, check_bond_count};
-use sg_list::Records;
 use sg_model::{Bond, BondList, Bonds, DartList, Fault, Instance, Refusal, Rotation};
 use std::alloc::Global;
 

@@ -1,5 +1,5 @@
 ghost use Rattle.std.specs.Prelude.{◌≡◌, ◌≤◌, [], Ok, MatchResult, IfOk, IfErr, OnOk};
-ghost use Rattle.sg_limits.specs.Limits.{bond_limit, spin_limit};
+ghost use Rattle.sg_base.specs.Limits.{bond_limit, spin_limit};
 ghost use Rattle.sg_model.specs.Ising.{bond_count};
 ghost use Rattle.sg_model.specs.WellFormed.{IsInstance};
 ghost use Rattle.sg_reader.specs.ReadInstance.{ReadsInstance, RefusesInstance};

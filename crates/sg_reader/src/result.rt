@@ -1,6 +1,6 @@
 ghost use Rattle.std.specs.Prelude.{◌≡◌, ◌<◌, ◌≤◌, ◌∷◌, [], None, length, IfOk, IfErr};
 ghost use Rattle.std.specs.List.{sum_by};
-ghost use Rattle.sg_limits.specs.Limits.{text_limit};
+ghost use Rattle.sg_base.specs.Limits.{text_limit};
 ghost use Rattle.sg_reader.specs.Body.{numbers_from};
 ghost use Rattle.sg_reader.specs.Ended.{RefusesRecords, StatesToEnd, Fails};
 ghost use Rattle.sg_reader.specs.Result.{HoldsLoops, energy_fault, loop_fault, stated_loop, loops_fault, result_fault, stated_loops, spins_fault, ReadsResult, RefusesResult};

@@ -1,6 +1,6 @@
 ghost use Rattle.std.specs.Prelude.{◌≡◌, ◌<◌, ◌≤◌, [], ◌∷◌, length, IfOk, OnErr, MatchBool};
 ghost use Rattle.std.specs.List.{sum_by};
-ghost use Rattle.sg_limits.specs.Limits.{text_limit};
+ghost use Rattle.sg_base.specs.Limits.{text_limit};
 ghost use Rattle.sg_reader.specs.Kept.{kept_of};
 
 use super::NoMemory;
@@ -21,7 +21,7 @@ pub struct Rows<'a> {
 impl<'a> Model for Rows<'a> {
     ghost use Rattle.std.specs.Prelude.{◌+◌, ◌<◌, ◌≤◌, ◌^◌, List, filter, length};
     ghost use Rattle.std.specs.List.{sum_by};
-    ghost use Rattle.sg_limits.specs.Limits.{text_limit};
+    ghost use Rattle.sg_base.specs.Limits.{text_limit};
     ghost use Rattle.sg_reader.specs.Kept.{Kept, is_kept, numbered_from};
 
     ghost Value = { List Kept };

@@ -1,10 +1,9 @@
 // What comes of each event, and the run of all of them.
 use super::Engine;
 use crate::NoMemory;
-use sg_agenda::Subject;
 use sg_forest::{Contact, End, Reach, Role};
 use sg_growth::{Arc, Held, NEVER, Soon, reverse};
-use sg_slots::number;
+use sg_slots::{Subject, number};
 use sg_work::Limit;
 
 impl<'a, L: Limit> Engine<'a, L> {

@@ -1,6 +1,6 @@
 // Numbers of an instance, as texts print them.
 ghost use Rattle.std.specs.Prelude.{◌≡◌, ◌≤◌, pos};
-ghost use Rattle.sg_limits.specs.Limits.{sum_limit};
+ghost use Rattle.sg_base.specs.Limits.{sum_limit};
 ghost use Rattle.sg_model.specs.Energy.{weight};
 ghost use Rattle.sg_model.specs.Ising.{bond_count as count_of_bonds};
 

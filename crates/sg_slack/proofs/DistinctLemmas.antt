@@ -7,7 +7,7 @@ use Rattle.std.proofs.lemmas.List.{get_or_append_left}
 use Rattle.std.proofs.Math.Seq.{get_or-append_seam}
 use Rattle.std.proofs.lemmas.Map.Keys.{IsDistinct-cons}
 use Rattle.std.proofs.lemmas.Map.Steps.{length-le_from_distinct_below}
-use Rattle.sg_sums.proofs.ListLaws.{place_of_any}
+use Rattle.sg_base.proofs.ListLaws.{place_of_any}
 
 -- a number that differs from each entry
 apart : (x : ℕ) (xs : List ℕ) → ((i : ℕ) → i < length xs → x ≢ get_or xs i 0) → AllByRecursion (λ y. eqb x y ≡ false) xs

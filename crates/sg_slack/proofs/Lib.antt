@@ -3,3 +3,7 @@ pub mod LineLemmas
 pub mod NearLemmas
 pub mod ScanLemmas
 pub mod TableLemmas
+pub mod TightLemmas
+pub mod PairingSums
+pub mod DualBound
+pub mod MetricLemmas

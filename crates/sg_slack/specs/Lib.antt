@@ -6,3 +6,7 @@ pub mod Members
 pub mod Kept
 pub mod Fields
 pub mod Line
+pub mod Metric
+pub mod Fit
+pub mod Tight
+pub mod Matching

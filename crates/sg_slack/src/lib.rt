@@ -1,8 +1,14 @@
-//! Costs of pairs of leaves, and the pair of least slack, for Edmonds' least perfect matching
-//! (Edmonds 1965).
+//! Costs of pairs of leaves, the pair of least slack, and pairings at the least cost with what proves one
+//! minimum, for Edmonds' least perfect matching (Edmonds 1965).
 //!
-//! For a physicist: the leaves are the frustrated plaquettes that are to be joined in pairs, and
-//! [`Costs`] has the cost of joining each two of them. Each leaf has a *total*, the sum of the duals
+//! For a physicist: the leaves are the frustrated plaquettes of a planar spin glass that are to be joined in
+//! pairs so that all pairs together cost least, and [`Costs`] has the cost of joining each two of them. A family
+//! of nested odd sets of leaves with *duals* proves it: if no two leaves cost less than the duals of the sets that
+//! hold just one of them, every pairing costs at least the sum of all duals, since each set is odd and some pair
+//! leaves it. A matching along pairs that cost just as much, and that leaves each set once, costs exactly this
+//! sum. That is the law [`matching_is_least`].
+//!
+//! Each leaf has a *total*, the sum of the duals
 //! of the sets that hold it. The *slack* of two leaves that no set holds together is their cost
 //! less their two totals. Edmonds' method grows a tree from an unpaired leaf; it next needs the pair
 //! of least slack between the tree's outer leaves and the leaves outside, and that between two outer
@@ -14,7 +20,10 @@
 //! slack among those meant, and none exactly where there is none. Which of several such pairs is given
 //! is free. A table is seen by its entries, `cost_of` of `specs/Table.antt`. Neither scan allocates. A
 //! `Near` is seen as its costs and the list of its members with their totals (`Known` of
-//! `specs/Members.antt`); what it keeps is `IsNear` of `specs/Kept.antt`.
+//! `specs/Members.antt`); what it keeps is `IsNear` of `specs/Kept.antt`. What a caller of the engine needs, and
+//! what it cites of its answer, is here without the tree: [`is_metric`] tells whether an engine takes a table of
+//! costs (`specs/Metric.antt`), and `specs/Matching.antt` says what a pairing and a matching are. In `proofs/`,
+//! `PairingSums` has sums over a pairing, and `DualBound` the bound by the duals.
 #![tactic(auto)]
 
 ghost use Rattle.std.specs.Prelude.{◌≡◌, ◌≢◌, ◌↔◌, ◌<◌, ◌-ℤ◌, FitsSigned, IsTrue, Some, false, length};
@@ -22,9 +31,13 @@ ghost use Rattle.std.specs.Int.{w64};
 ghost use Rattle.sg_slack.specs.Slack.{mark_at, slack_of, IsOuterFree, IsOuterOuter, Least, SumsFit};
 ghost use Rattle.sg_slack.specs.Scan.{IsLesser, IsOuterFreeOf, IsOuterOuterOf};
 
+mod law;
 mod member;
+mod metric;
 mod near;
 
+pub use law::matching_is_least;
+pub use metric::is_metric;
 pub use near::Near;
 use std::alloc::{AllocError, Global};
 use std::marker::Model;

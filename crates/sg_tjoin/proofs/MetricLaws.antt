@@ -2,8 +2,8 @@
 use Rattle.std.proofs.Common.{inl, inr, ◌≡◌, ℕ, ◌+◌, ◌%◌, ◌<◌, ◌≤◌, true, List, ◌∙◌, sym, ap, arith, length, get_or, subst, pos, cond, ltb, Result, Ok, Err}
 use Rattle.std.proofs.lemmas.Bool.{cases_eq, cases_lt}
 use Rattle.std.specs.Result.{IfOk}
-use Rattle.sg_limits.specs.Limits.{forced_limit}
-use Rattle.sg_sums.specs.Naturals.{nat_of}
+use Rattle.sg_base.specs.Limits.{forced_limit}
+use Rattle.sg_base.specs.Naturals.{nat_of}
 use Rattle.sg_graph.specs.Web.{Graph, IsWeb, total_weight}
 use Rattle.sg_graph.specs.Walk.{IsConnectedWeb, IsDistance}
 use Rattle.sg_graph.specs.Join.{AreTerminals}
@@ -14,10 +14,10 @@ use Rattle.sg_graph.proofs.Walks.{distance-itself, distance-joined}
 use Rattle.sg_dist.proofs.LightWays.{distance_light}
 use Rattle.sg_slack.specs.Table.{Table, cost_of}
 use Rattle.sg_arena.specs.Family.{Family, leaf_count}
-use Rattle.sg_pairing.specs.Matching.{IsMatching, IsPairing, NoSlackIsNegative, pairing_cost}
-use Rattle.sg_pairing.specs.Metric.{IsMetric, cost}
-use Rattle.sg_pairing.proofs.PairingSums.{sum_by-range}
-use Rattle.sg_sums.proofs.SumLaws.{sum_below-same}
+use Rattle.sg_slack.specs.Matching.{IsMatching, IsPairing, NoSlackIsNegative, pairing_cost}
+use Rattle.sg_slack.specs.Metric.{IsMetric, cost}
+use Rattle.sg_slack.proofs.PairingSums.{sum_by-range}
+use Rattle.sg_base.proofs.SumLaws.{sum_below-same}
 use Rattle.sg_moat.specs.Input.{AreTerminalTables, blank_table, table_at, terminal_cost}
 use Rattle.sg_tjoin.specs.Doubled.{AreMetric, FillsRows, Reaches, apart}
 

@@ -2,12 +2,12 @@
 use Rattle.std.proofs.Common.{inl, inr, ap₂, ◌≡◌, ◌≢◌, ℕ, ◌<◌, Bool, true, false, ◌&&◌, eqb, eq-eqb, ltb, List, ◌∙◌, sym, ap, arith, length, get_or, subst}
 use Rattle.std.specs.List.Sorted.{IsStrictlyIncreasing}
 use Rattle.std.proofs.lemmas.Bool.{cases_eq, cases_lt, eqb-true, le-ltb, lt-ltb, ne_eqb}
-use Rattle.sg_sums.specs.Parity.{parity_below, xor}
-use Rattle.sg_sums.specs.Sets.{holds}
-use Rattle.sg_sums.proofs.ListLaws.{cases_in}
-use Rattle.sg_sums.proofs.OneMore.{rising_order}
-use Rattle.sg_sums.proofs.ParityLaws.{and-false, and-xor, parity_below-none, parity_below-same, parity_below-xor, parity_below_pick}
-use Rattle.sg_pairing.specs.Matching.{IsPairing}
+use Rattle.sg_base.specs.Parity.{parity_below, xor}
+use Rattle.sg_base.specs.Sets.{holds}
+use Rattle.sg_base.proofs.ListLaws.{cases_in}
+use Rattle.sg_base.proofs.OneMore.{rising_order}
+use Rattle.sg_base.proofs.ParityLaws.{and-false, and-xor, parity_below-none, parity_below-same, parity_below-xor, parity_below_pick}
+use Rattle.sg_slack.specs.Matching.{IsPairing}
 use Rattle.sg_tjoin.specs.Turns.{ends_pair, leads_pair}
 
 module _ (terminals mates : List ℕ) (rising : IsStrictlyIncreasing terminals) (pairing : IsPairing (length terminals) mates) where

@@ -6,21 +6,21 @@ use Rattle.std.proofs.lemmas.Bool.{cases_lt, le-ltb, lt-ltb}
 use Rattle.std.proofs.lemmas.List.{get_or_past}
 use Rattle.std.proofs.lemmas.List.Elements.{All-append}
 use Rattle.std.proofs.lemmas.List.Sums.{sum_by-append}
-use Rattle.sg_sums.specs.Parity.{parity_below, parity_by, xor}
-use Rattle.sg_sums.specs.Sets.{chosen_below, holds, is_marked}
-use Rattle.sg_sums.specs.Sums.{sum_below}
-use Rattle.sg_sums.proofs.ListLaws.{filter-never}
-use Rattle.sg_sums.proofs.ParityLaws.{odd_is, parity_below-same, parity_by-append, xor_comm}
-use Rattle.sg_sums.proofs.RisingLists.{chosen_below_low, chosen_below_rises}
-use Rattle.sg_sums.proofs.SumLaws.{sum_below-same}
+use Rattle.sg_base.specs.Parity.{parity_below, parity_by, xor}
+use Rattle.sg_base.specs.Sets.{chosen_below, holds, is_marked}
+use Rattle.sg_base.specs.Sums.{sum_below}
+use Rattle.sg_base.proofs.ListLaws.{filter-never}
+use Rattle.sg_base.proofs.ParityLaws.{odd_is, parity_below-same, parity_by-append, xor_comm}
+use Rattle.sg_base.proofs.RisingLists.{chosen_below_low, chosen_below_rises}
+use Rattle.sg_base.proofs.SumLaws.{sum_below-same}
 use Rattle.sg_graph.specs.Web.{Graph, edge_count, edge_weight, ends_at, weight_of}
 use Rattle.sg_graph.specs.Join.{AreTerminals, IsJoin}
 use Rattle.sg_graph.specs.Table.{Routes}
 use Rattle.sg_graph.proofs.Joins.{ends_parity}
 use Rattle.sg_graph.proofs.OddLists.{chosen_below-parity, chosen_below-weight, is_odd_in, odd_in-parity, odd_in-weight}
 use Rattle.sg_graph.proofs.WalkEnds.{walk_below, walk_parity}
-use Rattle.sg_pairing.specs.Matching.{IsPairing, pairing_cost}
-use Rattle.sg_pairing.proofs.PairingSums.{sum_by-range}
+use Rattle.sg_slack.specs.Matching.{IsPairing, pairing_cost}
+use Rattle.sg_slack.proofs.PairingSums.{sum_by-range}
 use Rattle.sg_moat.specs.Input.{terminal_cost}
 use Rattle.sg_tjoin.specs.Doubled.{apart}
 use Rattle.sg_tjoin.specs.Turns.{AreTurned, TurnsWalk, ends_pair, is_odd_end, leads_pair}

@@ -1,6 +1,6 @@
 -- Costs of the terminals: twice their distances, as tables from each of them have them.
 use Rattle.std.specs.Prelude.{◌≡◌, ℕ, ◌+◌, ◌*◌, ◌%◌, ◌<◌, ◌≤◌, ◌^◌, pos, true, List, length, slice_index, All}
-use Rattle.sg_limits.specs.Limits.{cost_limit}
+use Rattle.sg_base.specs.Limits.{cost_limit}
 use Rattle.sg_graph.specs.Table.{Routes, distance_at, is_reached, length_to}
 use Rattle.sg_slack.specs.Table.{Table, cost_of}
 use Rattle.sg_moat.specs.Input.{distance_from, table_at, terminal_cost}

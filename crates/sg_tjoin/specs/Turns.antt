@@ -1,9 +1,9 @@
 -- Marks on the edges that walks cross, toggled at each crossing.
 use Rattle.std.specs.Prelude.{◌≡◌, ℕ, ◌<◌, ◌==◌, ◌&&◌, Bool, cond, nat_lt, List, [], length, slice_index, All}
-use Rattle.sg_sums.specs.Ends.{is_end}
-use Rattle.sg_sums.specs.Parity.{parity_by, parity_below, xor}
-use Rattle.sg_sums.specs.Sets.{is_marked}
-use Rattle.sg_sums.specs.Sums.{sum_below}
+use Rattle.sg_base.specs.Ends.{is_end}
+use Rattle.sg_base.specs.Parity.{parity_by, parity_below, xor}
+use Rattle.sg_base.specs.Sets.{is_marked}
+use Rattle.sg_base.specs.Sums.{sum_below}
 use Rattle.sg_graph.specs.Table.{Routes}
 use Rattle.sg_graph.specs.Walk.{IsWebWalk}
 use Rattle.sg_graph.specs.Web.{Graph, edge_at, edge_count, weight_of}

@@ -6,7 +6,7 @@ ghost use Rattle.sg_graph.specs.OddCut.{CutsPack, odd_cut_weight};
 ghost use Rattle.sg_graph.specs.Walk.{IsConnectedWeb};
 ghost use Rattle.sg_graph.specs.Web.{Graph, IsWeb, total_weight, weight_of};
 ghost use Rattle.sg_nest.specs.Nest.{NestProves};
-ghost use Rattle.sg_limits.specs.Limits.{forced_limit};
+ghost use Rattle.sg_base.specs.Limits.{forced_limit};
 ghost use Rattle.sg_tjoin.specs.declared.allowance.Unproved.TheVariants.{TablesTooLarge as AreTooLarge};
 ghost use Rattle.sg_tjoin.specs.Allowance.{IfTooLarge, table_bytes as bytes_of};
 
@@ -49,7 +49,7 @@ pub fn table_bytes(web: &Web, terminals: &Terminals) -> u64
 }
 
 /// In a graph of `most` nodes or fewer the tables take at most `20 most^2` bytes: of 8192 nodes, as many
-/// faces as an instance of the program has at most, less than `sg_limits::TABLE_LIMIT`, and of 2^24, as many as any
+/// faces as an instance of the program has at most, less than `sg_base::TABLE_LIMIT`, and of 2^24, as many as any
 /// graph has, less than 2^64.
 ///
 /// It computes nothing: a caller cites this call.

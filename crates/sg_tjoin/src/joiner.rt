@@ -4,7 +4,7 @@ ghost use Rattle.sg_graph.specs.Join.{AreTerminals, IsLeastJoin};
 ghost use Rattle.sg_graph.specs.Walk.{IsConnectedWeb};
 ghost use Rattle.sg_graph.specs.Web.{total_weight, weight_of};
 ghost use Rattle.sg_nest.specs.Nest.{NestProves};
-ghost use Rattle.sg_limits.specs.Limits.{forced_limit};
+ghost use Rattle.sg_base.specs.Limits.{forced_limit};
 ghost use Rattle.sg_tjoin.specs.Allowance.{IfTooLarge, table_bytes as bytes_of};
 
 use super::LeastJoin;

@@ -42,7 +42,7 @@ ghost use Rattle.sg_graph.specs.OddCut.{CutsPack, odd_cut_weight};
 ghost use Rattle.sg_graph.specs.Walk.{IsConnectedWeb};
 ghost use Rattle.sg_graph.specs.Web.{total_weight, weight_of};
 ghost use Rattle.sg_nest.specs.Nest.{NestProves};
-ghost use Rattle.sg_limits.specs.Limits.{forced_limit};
+ghost use Rattle.sg_base.specs.Limits.{forced_limit};
 
 pub use allowance::{
     Unproved, least_join_within, least_weight_within, matched_join_within, table_bytes,

@@ -3,8 +3,8 @@ ghost use Rattle.sg_graph.specs.Join.{AreTerminals, IsLeastJoin};
 ghost use Rattle.sg_graph.specs.OddCut.{CutsPack, odd_cut_weight};
 ghost use Rattle.sg_graph.specs.Walk.{IsConnectedWeb};
 ghost use Rattle.sg_graph.specs.Web.{total_weight, weight_of};
-ghost use Rattle.sg_limits.specs.Limits.{forced_limit};
-ghost use Rattle.sg_pairing.specs.Matching.{sum_of_duals};
+ghost use Rattle.sg_base.specs.Limits.{forced_limit};
+ghost use Rattle.sg_slack.specs.Matching.{sum_of_duals};
 
 use super::matching::matching;
 use super::matchings::Matchings;

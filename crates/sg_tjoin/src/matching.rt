@@ -1,15 +1,15 @@
 ghost use Rattle.std.specs.Prelude.{◌≡◌, ◌<◌, ◌*◌, ◌≤◌, length, All, IfOk};
 ghost use Rattle.sg_arena.specs.Family.{leaf_count};
-ghost use Rattle.sg_pairing.specs.Matching.{IsMatching, IsPairing, NoSlackIsNegative, pairing_cost, sum_of_duals};
-ghost use Rattle.sg_pairing.specs.Metric.{IsMetric, cost};
+ghost use Rattle.sg_slack.specs.Matching.{IsMatching, IsPairing, NoSlackIsNegative, pairing_cost, sum_of_duals};
+ghost use Rattle.sg_slack.specs.Metric.{IsMetric, cost};
 ghost use Rattle.sg_moat.specs.Input.{terminal_cost};
 ghost use Rattle.sg_tjoin.specs.Doubled.{AreMetric, FillsRow, FillsRows, Reaches};
 
 use super::NoMemory;
+use sg_base::Steps;
 use sg_graph::Table;
 use sg_match::{Engine, Matched};
 use sg_slack::Costs;
-use sg_steps::Steps;
 use std::alloc::Global;
 use std::marker::Brand;
 use std::sync::ledger::{Blank, Ledger};

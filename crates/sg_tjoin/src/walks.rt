@@ -2,15 +2,15 @@ ghost use Rattle.std.specs.Prelude.{◌≡◌, ◌*◌, ◌≤◌, length, [], I
 ghost use Rattle.sg_graph.specs.Join.{AreTerminals, IsJoin};
 ghost use Rattle.sg_graph.specs.Table.{IsTableOf, is_reached, length_to};
 ghost use Rattle.sg_graph.specs.Web.{edge_count, weight_of};
-ghost use Rattle.sg_pairing.specs.Matching.{IsPairing, pairing_cost};
+ghost use Rattle.sg_slack.specs.Matching.{IsPairing, pairing_cost};
 ghost use Rattle.sg_moat.specs.Input.{AreTerminalTables, terminal_cost};
 ghost use Rattle.sg_tjoin.specs.Doubled.{AreMetric};
 ghost use Rattle.sg_tjoin.specs.Turns.{TurnsWalk};
 
 use super::NoMemory;
+use sg_base::{flip, places};
 use sg_dist::path;
 use sg_graph::{EdgeList, Table, Web};
-use sg_sums::{flip, places};
 use std::alloc::Global;
 
 /// The edges that are in an odd number of the mates' shortest walks: a T-join of the terminals.

@@ -7,9 +7,9 @@ ghost use Rattle.sg_graph_text.specs.Network.{IsNetwork};
 use super::facts::expect;
 use rand_core::utils::NextWord;
 use rand_pcg::Pcg32;
+use sg_base::{all_below, is_rising};
 use sg_graph::{Edge, Edges, Terminals, Web, connected};
 use sg_graph_text::Network;
-use sg_sums::{all_below, is_rising};
 use std::alloc::{AllocError, Global};
 use std::process::Abort;
 

@@ -1,5 +1,5 @@
 use super::facts::expect;
-use sg_list::{Lists, Numbers, Records};
+use sg_base::{Lists, Numbers, Records};
 use std::alloc::{AllocError, Global};
 use std::test::Fail;
 

@@ -8,7 +8,7 @@ use Rattle.sg_model.specs.declared.bond.Bond.{Bond}
 use Rattle.sg_model.specs.Ising.{Ising, bond_at, bond_count}
 use Rattle.sg_model.specs.Energy.{IsLeastEnergy}
 use Rattle.sg_model.proofs.OneEnergy.{least-one}
-use Rattle.sg_sums.specs.Sets.{holds}
+use Rattle.sg_base.specs.Sets.{holds}
 use Rattle.sg_model.specs.Changes.{flipped_at, opposite, with_bonds, with_seam_flipped}
 
 abbrev no_bond : Bond

@@ -1,7 +1,7 @@
 -- The three numbers of a wall, from two least energies.
 use Rattle.std.proofs.Common.{◌≡◌, ℕ, ◌≤◌, ◌*◌, ℤ, ◌-ℤ◌, [], sym, ◌∙◌, ap, subst, to_z, of_z, w64, pos, arith, FitsSigned, unsigned_abs}
 use Rattle.std.proofs.lemmas.Int.{ints, to_z-of_z, fits_signed_from_abs}
-use Rattle.sg_limits.specs.Limits.{forced_limit}
+use Rattle.sg_base.specs.Limits.{forced_limit}
 use Rattle.sg_model.specs.Energy.{IsLeastEnergy, weight}
 use Rattle.sg_model.specs.Changes.{with_seam_flipped}
 use Rattle.sg_planar.specs.Fit.{Embedding, IsPlanar}

@@ -4,7 +4,7 @@ use Rattle.std.proofs.lemmas.Int.{ints}
 use Rattle.std.specs.Prelude.{ℤ, pos, negsuc, ◌≤ℤ◌, slice_index}
 use Rattle.sg_arena.specs.Family.{Family, Holds, IsTop, dual_of, total_of}
 use Rattle.sg_arena.specs.Changes.{CanRaise}
-use Rattle.sg_sums.specs.Naturals.{nat_of}
+use Rattle.sg_base.specs.Naturals.{nat_of}
 
 -- a whole number's natural part is no larger
 pub nat_of-bound : (z : ℤ) (n : ℕ) → z ≤ℤ pos n → nat_of z ≤ n

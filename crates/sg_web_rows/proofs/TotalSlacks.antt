@@ -5,8 +5,8 @@ use Rattle.sg_graph.specs.Table.{Routes}
 use Rattle.sg_arena.specs.Family.{Family, Node, has_leaf, leaf_count, total_of}
 use Rattle.sg_arena.specs.Slack.{cut_share, duals_between, exactly_one}
 use Rattle.sg_arena.proofs.DualLemmas.{duals_between-back, total-between}
-use Rattle.sg_pairing.specs.Matching.{NoSlackIsNegative}
-use Rattle.sg_sums.proofs.ListLaws.{sum_by-zero}
+use Rattle.sg_slack.specs.Matching.{NoSlackIsNegative}
+use Rattle.sg_base.proofs.ListLaws.{sum_by-zero}
 use Rattle.sg_moat.specs.Input.{terminal_cost}
 use Rattle.sg_tjoin.specs.Doubled.{AreMetric}
 

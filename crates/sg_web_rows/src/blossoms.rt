@@ -3,7 +3,7 @@ ghost use Rattle.sg_arena.specs.Family.{IsTop, IsBlossom, leaf_count, total_of};
 
 use super::facts::expect;
 use sg_arena::{Arena, Link, NoMemory};
-use sg_steps::Steps;
+use sg_base::Steps;
 use std::alloc::Global;
 use std::marker::Brand;
 use std::process::Abort;

@@ -1,7 +1,7 @@
 // Which costs an engine takes.
 use super::costs::{Entry, table};
 use super::facts::expect;
-use sg_pairing::is_metric;
+use sg_slack::is_metric;
 use std::test::Fail;
 
 // Leaves with their costs, and whether an engine takes these: an odd number of leaves, a line, an odd cost, a

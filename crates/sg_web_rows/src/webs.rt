@@ -5,8 +5,8 @@ ghost use Rattle.sg_graph.specs.Walk.{IsConnectedWeb};
 ghost use Rattle.sg_graph.specs.Web.{IsEdge, total_weight, weight_at};
 
 use super::facts::expect;
+use sg_base::{all_below, is_rising};
 use sg_graph::{Edge, Edges, NoMemory, Terminals, Web, connected};
-use sg_sums::{all_below, is_rising};
 use std::alloc::Global;
 use std::process::Abort;
 

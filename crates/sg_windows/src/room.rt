@@ -4,8 +4,8 @@ use super::lists::entry_or;
 use super::sheet::{Sheet, first_dart, second_dart};
 use sg_model::Instance;
 use sg_nest::{Nest, Place, Region};
+use sg_planar::names;
 use sg_slots::{Store, entry, number, set_entry};
-use sg_walk::names;
 use std::alloc::Global;
 
 // The radii of each region and of all that it is a part of.

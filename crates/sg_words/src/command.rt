@@ -4,8 +4,8 @@ ghost use Rattle.sg_lattice.specs.Tables.{least_cols as least_columns};
 ghost use Rattle.sg_words.specs.Command.{command_named, command_of, ensemble_of, gen_of, IsAllowed, IsAllowedSize, kind_named, law_word as second_word, sample_of, six_words, size_of_words, widths_of};
 
 use super::numeral::number_in;
+use sg_base::{SAMPLE_LIMIT, SPIN_LIMIT, WIDTH_LIMIT};
 use sg_lattice::{Kind, least_cols};
-use sg_limits::{SAMPLE_LIMIT, SPIN_LIMIT, WIDTH_LIMIT};
 
 /// A command of the program.
 #[derive(Clone, Copy)]

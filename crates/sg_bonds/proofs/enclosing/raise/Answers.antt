@@ -1,5 +1,5 @@
 use Rattle.sg_bonds.proofs.Common.{rules, ◌∙◌, ◌<◌, ℕ, pos, ap, arith, length, w64, to_z-of_z, get_or_default, Bond, Ising, bond_count}
-use Rattle.sg_sums.proofs.SumLaws.{at-le-sum_below}
+use Rattle.sg_base.proofs.SumLaws.{at-le-sum_below}
 use Rattle.sg_bonds.specs.Bounds.{unbounded}
 use Rattle.sg_bonds.specs.Weakened.{amount_at}
 use Rattle.sg_bonds.proofs.EvenCosts.{narrows_raised, weakened_even}

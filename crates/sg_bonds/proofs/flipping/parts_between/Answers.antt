@@ -1,4 +1,4 @@
-use Rattle.sg_walk.specs.Walk.{has}
+use Rattle.sg_planar.specs.Walk.{has}
 use Rattle.sg_bonds.proofs.PartFlips.{names_below}
 use Rattle.sg_bonds.proofs.flipping.parts_between.Goals as goal
 

@@ -1,5 +1,5 @@
 use Rattle.std.proofs.Common.{◌≡◌, ◌≤◌, ◌^◌, ◌*◌, pos}
-use Rattle.sg_sums.specs.Sums.{sum_below}
+use Rattle.sg_base.specs.Sums.{sum_below}
 use Rattle.sg_bonds.specs.Weakened.{amount_at}
 use Rattle.sg_bonds.proofs.weaken.total.Given as goal
 

@@ -1,6 +1,6 @@
 use Rattle.std.proofs.Common.{◌≡◌, ◌∙◌, ◌+◌, ◌<◌, ◌≤◌, [], ◌∷◌, ◌++◌, arith, rules, ap, length, subst, sym, w64, to_z-of_z, length-append}
 use Rattle.std.proofs.lemmas.Result.{err_from_is_err_and}
-use Rattle.sg_limits.specs.Limits.{forced_limit, table_limit}
+use Rattle.sg_base.specs.Limits.{forced_limit, table_limit}
 use Rattle.sg_graph.specs.Incidence.{list_at}
 use Rattle.sg_graph.specs.Join.{AreTerminals, IsLeastJoin}
 use Rattle.sg_graph.specs.Walk.{IsConnectedWeb}

@@ -1,7 +1,7 @@
 use Rattle.std.proofs.Common.{◌≡◌, ◌∙◌, ap, inl, length, subst, sym, All, List, [], arith}
 use Rattle.std.proofs.lemmas.Grind.{common_steps}
 use Rattle.std.proofs.lemmas.List.{with_items_is}
-use Rattle.sg_limits.specs.Limits.{table_limit}
+use Rattle.sg_base.specs.Limits.{table_limit}
 use Rattle.sg_draft.specs.Limits.{large_limits}
 use Rattle.sg_bonds.specs.Bounds.{AreBounds, Decides, Narrows}
 use Rattle.sg_bonds.specs.Weakened.{WeakenedTablesExceed}

@@ -1,5 +1,5 @@
 use Rattle.std.proofs.Common.{inl}
-use Rattle.sg_limits.specs.Limits.{table_limit}
+use Rattle.sg_base.specs.Limits.{table_limit}
 use Rattle.sg_draft.specs.Limits.{large_limits}
 use Rattle.sg_bonds.specs.Weakened.{WeakenedTablesExceed}
 use Rattle.sg_calls.specs.Graphs.{IsFitFault, numbers_of}

@@ -1,5 +1,5 @@
 use Rattle.std.proofs.Common.{inl, sym, refl}
-use Rattle.sg_limits.specs.Limits.{table_limit}
+use Rattle.sg_base.specs.Limits.{table_limit}
 use Rattle.sg_model.proofs.EnergyBounds.{energy_size}
 use Rattle.sg_draft.specs.Limits.{large_limits}
 use Rattle.sg_ground.specs.Allowance.{TablesExceed}

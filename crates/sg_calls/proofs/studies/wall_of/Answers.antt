@@ -1,6 +1,6 @@
 use Rattle.std.proofs.Common.{arith, inl}
 use Rattle.std.proofs.lemmas.Grind.{common_steps}
-use Rattle.sg_limits.specs.Limits.{table_limit}
+use Rattle.sg_base.specs.Limits.{table_limit}
 use Rattle.sg_draft.specs.Limits.{large_limits}
 use Rattle.sg_wall.specs.Wall.{WallTablesExceed}
 use Rattle.sg_calls.specs.Graphs.{IsWallFault, numbers_of}

@@ -1,5 +1,5 @@
 use Rattle.std.proofs.Common.{rules, ◌≡◌, ◌∙◌, ap, sym, subst, min}
-use Rattle.sg_limits.specs.Limits.{large_spin_limit}
+use Rattle.sg_base.specs.Limits.{large_spin_limit}
 use Rattle.sg_model.specs.Ising.{Ising, bond_count}
 use Rattle.sg_model.specs.WellFormed.{IsInstance}
 use Rattle.sg_calls.proofs.TableLemmas.{AreCouplings, are-tables, lattice-couplings}

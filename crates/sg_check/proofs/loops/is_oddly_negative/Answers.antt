@@ -1,7 +1,7 @@
 use Rattle.std.proofs.Common.{◌≡◌, ◌∙◌, ap, true, false, pos, sym, rules, w64, int_lt, FitsSigned, take_all}
 use Rattle.std.proofs.lemmas.Int.{to_z-of_z}
-use Rattle.sg_sums.specs.Parity.{xor, parity_by}
-use Rattle.sg_sums.proofs.ParityLaws.{xor-false, xor_comm}
+use Rattle.sg_base.specs.Parity.{xor, parity_by}
+use Rattle.sg_base.proofs.ParityLaws.{xor-false, xor_comm}
 use Rattle.sg_model.specs.Ising.{bond_at}
 use Rattle.sg_model.specs.Broken.{is_negative}
 use Rattle.sg_check.proofs.OddSpins.{negative_more, odd_sign}

@@ -1,5 +1,5 @@
 use Rattle.std.proofs.Common.{◌≡◌, take}
-use Rattle.sg_sums.specs.Parity.{parity_by}
+use Rattle.sg_base.specs.Parity.{parity_by}
 use Rattle.sg_model.specs.Broken.{is_negative}
 use Rattle.sg_model.specs.Ising.{bond_at}
 use Rattle.sg_check.proofs.loops.is_oddly_negative.Given as goal

@@ -1,6 +1,6 @@
 use Rattle.std.proofs.Common.{◌≡◌, ℕ, ◌<◌, take}
-use Rattle.sg_sums.specs.Parity.{xor, parity_by}
-use Rattle.sg_sums.specs.Sets.{is_marked}
+use Rattle.sg_base.specs.Parity.{xor, parity_by}
+use Rattle.sg_base.specs.Sets.{is_marked}
 use Rattle.sg_model.specs.Ising.{bond_at}
 use Rattle.sg_check.specs.Loop.{is_end_of}
 use Rattle.sg_check.proofs.spins.flip_ends.Given as goal

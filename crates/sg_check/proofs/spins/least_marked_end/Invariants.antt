@@ -1,6 +1,6 @@
 use Rattle.std.proofs.Common.{◌≡◌, ℕ, ◌<◌, ◌≤◌, true, take}
 use Rattle.std.specs.List.{list_any}
-use Rattle.sg_sums.specs.Sets.{is_marked}
+use Rattle.sg_base.specs.Sets.{is_marked}
 use Rattle.sg_model.specs.Ising.{bond_at}
 use Rattle.sg_check.specs.Loop.{is_end_of}
 use Rattle.sg_check.proofs.spins.least_marked_end.Given as goal

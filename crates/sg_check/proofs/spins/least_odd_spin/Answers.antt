@@ -1,6 +1,6 @@
 use Rattle.std.proofs.Common.{◌≡◌, ◌∙◌, ap, length, arith}
 use Rattle.std.proofs.lemmas.List.{length-replicate}
-use Rattle.sg_sums.specs.Parity.{parity_by}
+use Rattle.sg_base.specs.Parity.{parity_by}
 use Rattle.sg_check.proofs.OddSpins.{ends_at, is_marked_odd, least_odd, turned_twice}
 use Rattle.sg_check.proofs.spins.least_odd_spin.Goals as goal
 

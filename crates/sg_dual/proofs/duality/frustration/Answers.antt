@@ -2,7 +2,7 @@ use Rattle.std.proofs.Common.{◌≡◌, ap, arith, length, ◌∙◌, sym}
 use Rattle.std.proofs.lemmas.Grind.{elements}
 use Rattle.sg_model.specs.declared.bond.Bond.{Bond}
 use Rattle.sg_model.specs.Rotation.{dart_count}
-use Rattle.sg_sums.specs.Parity.{parity_below}
+use Rattle.sg_base.specs.Parity.{parity_below}
 use Rattle.sg_dual.proofs.Frustration.{is_negative_side, frustrated_parity}
 use Rattle.sg_dual.proofs.duality.frustration.Goals as goal
 

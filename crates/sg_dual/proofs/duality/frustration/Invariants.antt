@@ -1,7 +1,7 @@
 -- The marks count the negative darts so far.
 use Rattle.std.proofs.Common.{◌≡◌, ℕ, ◌<◌, vec_len}
-use Rattle.sg_sums.specs.Parity.{parity_below}
-use Rattle.sg_sums.specs.Sets.{is_marked}
+use Rattle.sg_base.specs.Parity.{parity_below}
+use Rattle.sg_base.specs.Sets.{is_marked}
 use Rattle.sg_dual.proofs.Frustration.{is_negative_side}
 use Rattle.sg_dual.proofs.duality.frustration.Given as goal
 

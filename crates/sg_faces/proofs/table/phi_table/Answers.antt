@@ -4,7 +4,7 @@ use Rattle.std.proofs.lemmas.List.FromFn.{length-range_with_len}
 use Rattle.std.proofs.lemmas.List.Sums.{count_by-le-length}
 use Rattle.std.proofs.lemmas.Option.{get_or_from_slice_get}
 use Rattle.sg_model.specs.Rotation.{darts_of, rev}
-use Rattle.sg_sums.specs.Sets.{DifferByCount}
+use Rattle.sg_base.specs.Sets.{DifferByCount}
 use Rattle.sg_model.proofs.Rotations.{spin_distinct}
 use Rattle.sg_faces.specs.Faces.{is_bare}
 use Rattle.sg_faces.proofs.BareSpins.{bare_by_list}

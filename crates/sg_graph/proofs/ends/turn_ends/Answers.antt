@@ -1,5 +1,5 @@
 use Rattle.std.proofs.Common.{arith}
-use Rattle.sg_sums.specs.Sets.{is_marked}
+use Rattle.sg_base.specs.Sets.{is_marked}
 use Rattle.sg_graph.proofs.TurnedEnds.{ends_more}
 use Rattle.sg_graph.proofs.ends.turn_ends.Goals as goal
 

@@ -1,5 +1,5 @@
 use Rattle.std.proofs.Common.{◌≡◌, ◌<◌, ℕ, true}
-use Rattle.sg_sums.specs.Sets.{is_marked}
+use Rattle.sg_base.specs.Sets.{is_marked}
 use Rattle.sg_graph.proofs.search.first_unreached.Given as goal
 
 abbrev pub invariant-loop-node : goal.invariant-loop-node

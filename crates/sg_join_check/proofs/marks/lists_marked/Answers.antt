@@ -1,5 +1,5 @@
 use Rattle.std.proofs.Common.{arith}
-use Rattle.sg_sums.proofs.MarkedLists.{lists_all}
+use Rattle.sg_base.proofs.MarkedLists.{lists_all}
 use Rattle.sg_join_check.proofs.marks.lists_marked.Goals as goal
 
 pub returns-then-list-count : goal.returns-then-list-count

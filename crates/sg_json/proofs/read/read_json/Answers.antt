@@ -1,7 +1,7 @@
 use Rattle.std.proofs.Common.{◌≤◌, length, arith}
 use Rattle.std.proofs.lemmas.Result.{IfErr-weaker}
 use Rattle.serde_json.specs.View.{view}
-use Rattle.sg_limits.specs.Limits.{json_limit}
+use Rattle.sg_base.specs.Limits.{json_limit}
 use Rattle.sg_json.specs.ReadJson.{SaysData}
 use Rattle.sg_json.proofs.Said.{json-fault}
 use Rattle.sg_json.proofs.read.read_json.Goals as goal

@@ -4,7 +4,7 @@ use Rattle.std.proofs.lemmas.Int.{ints, to_z-of_z}
 use Rattle.std.specs.Vec.{with_items}
 use Rattle.sg_arena.proofs.RaisedFamily.{length-raised}
 use Rattle.sg_arena.specs.Changes.{CanRaise, raised}
-use Rattle.sg_sums.specs.Naturals.{nat_of}
+use Rattle.sg_base.specs.Naturals.{nat_of}
 use Rattle.sg_arena.specs.Family.{Family, IsAlive, leaf_count}
 use Rattle.sg_match.proofs.Engine.change_duals.Given.{Over}
 use Rattle.sg_match.proofs.Engine.change_duals.Goals as goal
@@ -17,7 +17,7 @@ use Rattle.sg_match.specs.InnerZeros.{IsInnerZero, IsLeastInnerZero}
 use Rattle.sg_match.specs.Engine.{IsEngine}
 use Rattle.sg_match.specs.Events.{IsNext}
 use Rattle.sg_match.specs.Nearest.{HasNearest}
-use Rattle.sg_pairing.specs.Metric.{cost}
+use Rattle.sg_slack.specs.Metric.{cost}
 use Rattle.sg_match.specs.State.{State}
 use Rattle.sg_match.specs.Steps.{steps_left}
 use Rattle.sg_match.specs.Tree.{inners, tree_edge_at, outers}

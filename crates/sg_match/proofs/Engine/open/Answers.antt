@@ -7,7 +7,7 @@ use Rattle.sg_match.proofs.Engine.open.Goals.{In_ok-near}
 use Rattle.sg_match.proofs.OpeningLemmas.{IsEngine-opened, steps_left-opened}
 use Rattle.sg_match.specs.Pairs.{pair_of}
 use Rattle.sg_match.specs.Steps.{steps_left}
-use Rattle.sg_pairing.specs.Metric.{IsMetric}
+use Rattle.sg_slack.specs.Metric.{IsMetric}
 use Rattle.sg_slack.specs.Table.{Table}
 
 always : (k n : ℕ) → get_or (replicate {A = Option Edge} k None) n None ≡ None

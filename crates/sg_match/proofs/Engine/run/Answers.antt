@@ -7,10 +7,10 @@ use Rattle.sg_match.proofs.Engine.run.Goals as goal
 use Rattle.sg_match.proofs.EngineLemmas.{state_of, symmetric}
 use Rattle.sg_match.proofs.StageLemmas.{steps-paired}
 use Rattle.sg_match.specs.Feasible.{IsFeasible}
-use Rattle.sg_pairing.specs.Tight.{IsTight}
-use Rattle.sg_pairing.proofs.DualBound.{cost-is_duals, matching_least}
-use Rattle.sg_pairing.specs.Matching.{IsMatching, IsPairing}
-use Rattle.sg_pairing.specs.Metric.{cost}
+use Rattle.sg_slack.specs.Tight.{IsTight}
+use Rattle.sg_slack.proofs.DualBound.{cost-is_duals, matching_least}
+use Rattle.sg_slack.specs.Matching.{IsMatching, IsPairing}
+use Rattle.sg_slack.specs.Metric.{cost}
 use Rattle.sg_match.specs.Pairs.{AllPaired, IsPaired}
 use Rattle.sg_match.specs.State.{State}
 use Rattle.sg_match.specs.declared.Edge.{Edge}

@@ -12,7 +12,7 @@ use Rattle.sg_match.proofs.Engine.shrink.Goals as goal
 use Rattle.sg_match.proofs.Engine.shrink.Goals.{After-find_cycle-base, After-self}
 use Rattle.sg_match.specs.Engine.{IsEngine}
 use Rattle.sg_match.specs.Events.{IsTightOuterOuter}
-use Rattle.sg_pairing.specs.Metric.{cost}
+use Rattle.sg_slack.specs.Metric.{cost}
 use Rattle.sg_match.specs.Path.{AreTight}
 use Rattle.sg_match.specs.TreeCycle.{HasTight, IsTreeCycle}
 use Rattle.sg_match.specs.State.{State}

@@ -1,6 +1,6 @@
 -- `nearest`: the tables say of the leaves what the tree says.
 use Rattle.std.proofs.Common.{◌≡◌, ◌<◌, ◌∙◌, subst, sym, arith}
-use Rattle.sg_sums.specs.Naturals.{nat_of}
+use Rattle.sg_base.specs.Naturals.{nat_of}
 use Rattle.sg_match.proofs.NearestStep.{CanScan-listed, IsMarked-stands, IsNearest-scanned, SumsFit-listed}
 use Rattle.sg_match.specs.Marks.{AreRightMarks}
 use Rattle.sg_match.specs.Scans.{CanScan, IsScanned}

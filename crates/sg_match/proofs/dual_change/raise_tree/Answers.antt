@@ -2,7 +2,7 @@
 use Rattle.std.proofs.Common.{◌≡◌, pos, sym, ap, ◌∙◌, arith}
 use Rattle.std.proofs.lemmas.Int.{ints}
 use Rattle.sg_arena.specs.Changes.{raised}
-use Rattle.sg_sums.specs.Naturals.{nat_of}
+use Rattle.sg_base.specs.Naturals.{nat_of}
 use Rattle.sg_match.proofs.DualChangeStep.{raised-none}
 use Rattle.sg_match.proofs.dual_change.raise_tree.Goals as goal
 use Rattle.sg_match.specs.Tree.{inners, outers}

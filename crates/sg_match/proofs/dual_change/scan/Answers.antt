@@ -3,7 +3,7 @@ use Rattle.std.proofs.Common.{◌≡◌, ℕ, ◌*◌, ℤ, pos, FitsSigned, sym
 use Rattle.std.proofs.lemmas.Option.{none-some, same_Some}
 use Rattle.std.proofs.lemmas.Int.{ints}
 use Rattle.std.specs.Int.Signed.{quot_z}
-use Rattle.sg_sums.specs.Naturals.{nat_of}
+use Rattle.sg_base.specs.Naturals.{nat_of}
 use Rattle.sg_match.proofs.ScanStep.{IsScanned-both, IsScanned-free, IsScanned-none, half_is, less_is, not_less_is, whole_is}
 use Rattle.sg_match.proofs.dual_change.scan.Goals as goal
 use Rattle.sg_match.proofs.dual_change.scan.Goals.{In-Some, In-Some-both}

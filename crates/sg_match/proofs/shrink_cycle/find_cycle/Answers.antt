@@ -1,6 +1,6 @@
 -- `find_cycle`: from the last tree edge down, the path grows where a tree edge ends at its head or its tail.
 use Rattle.std.proofs.Common.{◌≡◌, ◌+◌, ◌-◌, ◌<◌, List, [], ◌∷◌, ◌++◌, length, sym, ap, ◌∙◌, subst, arith, length-append}
-use Rattle.sg_pairing.proofs.TightLemmas.{tight-back}
+use Rattle.sg_slack.proofs.TightLemmas.{tight-back}
 use Rattle.sg_match.proofs.shrink_cycle.find_cycle.Goals as goal
 use Rattle.sg_match.proofs.shrink_cycle.find_cycle.Goals.{In-loop-head}
 use Rattle.sg_arena.proofs.FamilyLemmas.{leaf_bound}

@@ -1,7 +1,7 @@
 use Rattle.std.proofs.Common.{arith, rules}
 use Rattle.std.proofs.lemmas.Grind.{elements}
 use Rattle.std.proofs.lemmas.List.{with_items_is}
-use Rattle.sg_sums.specs.Sets.{is_marked}
+use Rattle.sg_base.specs.Sets.{is_marked}
 use Rattle.sg_planar.proofs.FollowedBonds.{set_to_more, set_to_all}
 use Rattle.sg_planar.proofs.assignment.follow.Goals as goal
 

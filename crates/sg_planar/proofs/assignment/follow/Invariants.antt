@@ -1,4 +1,4 @@
-use Rattle.sg_sums.specs.Sets.{is_marked}
+use Rattle.sg_base.specs.Sets.{is_marked}
 use Rattle.sg_planar.specs.Following.{SetTo}
 use Rattle.sg_planar.proofs.assignment.follow.Given as goal
 

@@ -1,6 +1,6 @@
 use Rattle.std.proofs.Common.{◌/◌, arith, Bool, false, get_or, not}
 use Rattle.std.proofs.Math.Bool.{beq}
-use Rattle.sg_sums.specs.Sets.{is_marked}
+use Rattle.sg_base.specs.Sets.{is_marked}
 use Rattle.sg_planar.proofs.FollowedBonds.{heads_more, ne_is_xor}
 use Rattle.sg_planar.proofs.assignment.set_heads.Goals as goal
 

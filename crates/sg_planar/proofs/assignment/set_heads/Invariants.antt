@@ -1,5 +1,5 @@
 use Rattle.std.proofs.Common.{take}
-use Rattle.sg_sums.specs.Sets.{is_marked}
+use Rattle.sg_base.specs.Sets.{is_marked}
 use Rattle.sg_planar.specs.Following.{HeadsSet}
 use Rattle.sg_planar.proofs.assignment.set_heads.Given as goal
 

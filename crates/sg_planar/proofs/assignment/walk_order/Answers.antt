@@ -2,13 +2,13 @@
 use Rattle.std.proofs.Common.{⊎_elim, ◌≡◌, ◌<◌, ℕ, Bool, true, false, List, length, replicate, refl, sym, subst, arith, get_or, ◌∙◌, ap}
 use Rattle.std.proofs.lemmas.Grind.{elements}
 use Rattle.std.proofs.lemmas.List.{length-replicate}
-use Rattle.sg_sums.specs.Sets.{IsMarked, Stands}
-use Rattle.sg_sums.proofs.MarkLaws.{marked_in, none_marked}
+use Rattle.sg_base.specs.Sets.{IsMarked, Stands}
+use Rattle.sg_base.proofs.MarkLaws.{marked_in, none_marked}
 use Rattle.sg_model.specs.Ising.{Ising, bond_count}
 use Rattle.sg_model.specs.Connected.{IsConnected, Reached}
-use Rattle.sg_walk.specs.Walk.{IsWalked, has}
-use Rattle.sg_walk.proofs.LeastSpins.{reached_by_all}
-use Rattle.sg_walk.proofs.Searches.{marked_along}
+use Rattle.sg_planar.specs.Walk.{IsWalked, has}
+use Rattle.sg_planar.proofs.LeastSpins.{reached_by_all}
+use Rattle.sg_planar.proofs.Searches.{marked_along}
 use Rattle.sg_planar.specs.Following.{IsWalkOrder}
 use Rattle.sg_planar.proofs.assignment.walk_order.Goals as goal
 

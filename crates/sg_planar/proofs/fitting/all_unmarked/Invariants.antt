@@ -1,5 +1,5 @@
 use Rattle.std.proofs.Common.{◌≡◌, ℕ, ◌<◌, false}
-use Rattle.sg_sums.specs.Sets.{is_marked}
+use Rattle.sg_base.specs.Sets.{is_marked}
 use Rattle.sg_planar.proofs.fitting.all_unmarked.Given as goal
 
 abbrev pub invariant-loop-mark : goal.invariant-loop-mark

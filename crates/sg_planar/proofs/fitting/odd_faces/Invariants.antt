@@ -1,7 +1,7 @@
 -- The marks count the sides of marked bonds so far.
 use Rattle.std.proofs.Common.{◌≡◌, ℕ, ◌<◌, vec_len}
-use Rattle.sg_sums.specs.Parity.{parity_below}
-use Rattle.sg_sums.specs.Sets.{is_marked}
+use Rattle.sg_base.specs.Parity.{parity_below}
+use Rattle.sg_base.specs.Sets.{is_marked}
 use Rattle.sg_planar.specs.Sides.{is_marked_side}
 use Rattle.sg_planar.proofs.fitting.odd_faces.Given as goal
 

@@ -1,8 +1,8 @@
 use Rattle.std.proofs.Common.{◌≡◌, ◌∙◌, sym, ap, arith, length, List, Bool, ℕ}
 use Rattle.std.proofs.lemmas.Result.{IfOk-weaker}
-use Rattle.sg_sums.specs.Parity.{odd, parity_below}
-use Rattle.sg_sums.specs.Sets.{chosen_below, is_marked}
-use Rattle.sg_sums.proofs.Choosing.{chosen_below_same}
+use Rattle.sg_base.specs.Parity.{odd, parity_below}
+use Rattle.sg_base.specs.Sets.{chosen_below, is_marked}
+use Rattle.sg_base.proofs.Choosing.{chosen_below_same}
 use Rattle.sg_graph.specs.declared.web.Edge.{Edge}
 use Rattle.sg_graph.specs.Web.{degree_of, edge_count}
 use Rattle.sg_postman.specs.Tour.{odd_nodes}

@@ -1,7 +1,7 @@
 -- The marks count the ends of the edges so far.
 use Rattle.std.proofs.Common.{◌≡◌, ℕ, length}
-use Rattle.sg_sums.specs.Parity.{parity_below}
-use Rattle.sg_sums.specs.Sets.{is_marked}
+use Rattle.sg_base.specs.Parity.{parity_below}
+use Rattle.sg_base.specs.Sets.{is_marked}
 use Rattle.sg_postman.proofs.OddNodes.{is_end_at}
 use Rattle.sg_postman.proofs.degrees.odd_nodes.Given as goal
 

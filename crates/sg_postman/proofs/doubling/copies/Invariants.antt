@@ -1,6 +1,6 @@
 -- The edges of the join so far have two copies.
 use Rattle.std.proofs.Common.{◌≡◌, ℕ, ◌+◌, ◌<◌, cond, length, take}
-use Rattle.sg_sums.specs.Sets.{holds}
+use Rattle.sg_base.specs.Sets.{holds}
 use Rattle.sg_postman.specs.Tracing.{left_of}
 use Rattle.sg_postman.proofs.doubling.copies.Given as goal
 

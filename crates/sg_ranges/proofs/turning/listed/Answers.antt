@@ -1,7 +1,7 @@
 use Rattle.std.proofs.Common.{◌≡◌, ◌<◌, ◌+◌, ◌*◌, ◌∷◌, ◌++◌, [], length, get_or, pos, sym, ◌∙◌, ap, subst, arith}
 use Rattle.std.proofs.lemmas.Grind.{common_steps}
 use Rattle.std.proofs.lemmas.List.{length_push}
-use Rattle.sg_limits.specs.Limits.{sum_limit}
+use Rattle.sg_base.specs.Limits.{sum_limit}
 use Rattle.sg_model.specs.Ising.{bond_count}
 use Rattle.sg_bonds.proofs.CostNumbers.{kept_small}
 use Rattle.sg_ranges.specs.Turn.{IsTurn, IsDouble}

@@ -1,5 +1,5 @@
 use Rattle.std.proofs.Common.{◌∙◌, ◌-ℤ◌, ◌+ℤ◌, ◌*ℤ◌, ap, sym, arith}
-use Rattle.sg_limits.specs.Limits.{sum_limit}
+use Rattle.sg_base.specs.Limits.{sum_limit}
 use Rattle.sg_ranges.proofs.MovedCouplings.{turn_found}
 use Rattle.sg_ranges.proofs.turning.turn.Goals as goal
 

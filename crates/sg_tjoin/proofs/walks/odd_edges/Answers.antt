@@ -2,7 +2,7 @@ use Rattle.std.proofs.Common.{ap, arith, get_or, length, rules, subst, sym, ◌+
 use Rattle.std.proofs.lemmas.Grind.{elements}
 use Rattle.std.proofs.lemmas.List.{get_or_read, with_items_is}
 use Rattle.std.proofs.lemmas.Result.{IfOk-weaker}
-use Rattle.sg_sums.specs.Sets.{chosen_below, is_marked}
+use Rattle.sg_base.specs.Sets.{chosen_below, is_marked}
 use Rattle.sg_graph.specs.Join.{IsJoin}
 use Rattle.sg_graph.specs.Table.{length_to}
 use Rattle.sg_graph.specs.Web.{edge_count, weight_of}

@@ -1,5 +1,5 @@
 use Rattle.std.proofs.Common.{◌<◌, ◌≤◌, arith, of_z, rules, to_z, w64}
-use Rattle.sg_sums.specs.Naturals.{nat_of}
+use Rattle.sg_base.specs.Naturals.{nat_of}
 use Rattle.sg_arena.proofs.FamilyLemmas.{leaf_bound}
 use Rattle.sg_web_rows.proofs.RaiseLemmas.{CanRaise-one, CanRaise-two, nat_of-bound}
 use Rattle.sg_web_rows.proofs.blossoms.change_duals.Goals as goal

@@ -1,9 +1,9 @@
 //! Drawn lattices and graphs.
 use plain_std::alloc::Global;
+use sg_base::{Numbers, Records};
 use sg_graph::{Edge, Edges, Terminals, Web};
 use sg_lattice::{Kind, bond_count, build};
 use sg_laws::{Alternate, Disorder, One, PlusMinus, Uniform};
-use sg_list::{Numbers, Records};
 use sg_model::Instance;
 
 /// Numbers that are drawn (SplitMix64).

@@ -1,5 +1,5 @@
 use Rattle.std.proofs.Common.{ℕ, Bool, ◌/◌, ◌%◌, List, ◌++◌, map, sym, ◌∙◌, ap, append-nil}
-use Rattle.sg_sums.specs.Sets.{chosen_below}
+use Rattle.sg_base.specs.Sets.{chosen_below}
 use Rattle.sg_lattice.specs.declared.kind.Ends.{Ends}
 use Rattle.sg_lattice.specs.Tables.{bonds_between, ends_from, has_bond}
 use Rattle.sg_lattice.proofs.Ranks.{map_chosen_more}

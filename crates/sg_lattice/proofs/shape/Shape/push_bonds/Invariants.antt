@@ -1,5 +1,5 @@
 use Rattle.std.proofs.Common.{◌≡◌, ◌/◌, ◌%◌, List, ◌++◌, map}
-use Rattle.sg_sums.specs.Sets.{chosen_below}
+use Rattle.sg_base.specs.Sets.{chosen_below}
 use Rattle.sg_lattice.specs.declared.kind.Ends.{Ends}
 use Rattle.sg_lattice.specs.Tables.{bonds_between, ends_from, has_bond}
 use Rattle.sg_lattice.proofs.shape.Shape.push_bonds.Given as goal

@@ -1,6 +1,6 @@
 use Rattle.std.proofs.Common.{ℕ, List, [], ◌∷◌, ◌++◌, ◌∙◌, ap, append_assoc, arith}
 use Rattle.std.proofs.lemmas.Grind.{elements}
-use Rattle.sg_list.proofs.LastLists.{last_more}
+use Rattle.sg_base.proofs.LastLists.{last_more}
 use Rattle.sg_lattice.proofs.shape.Shape.push_spin.Goals as goal
 
 pub push_west-requires-clause-some : goal.push_west-requires-clause-some

@@ -1,7 +1,7 @@
 use Rattle.std.proofs.Common.{◌≡◌, ℕ, ◌<◌, false, take}
 use Rattle.sg_model.specs.Rotation.{darts_of, is_dart_of}
 use Rattle.sg_model.specs.Misplaced.{is_misplaced}
-use Rattle.sg_sums.specs.Sets.{is_marked}
+use Rattle.sg_base.specs.Sets.{is_marked}
 use Rattle.sg_model.specs.Marks.{MarksList}
 use Rattle.sg_model.proofs.draft.Draft.mark_list.Given as goal
 

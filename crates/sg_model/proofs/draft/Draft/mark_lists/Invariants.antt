@@ -1,6 +1,6 @@
 use Rattle.std.proofs.Common.{◌≡◌, ℕ, ◌≤◌, true, false}
 use Rattle.sg_model.specs.Rotation.{is_dart_of}
-use Rattle.sg_sums.specs.Sets.{is_marked}
+use Rattle.sg_base.specs.Sets.{is_marked}
 use Rattle.sg_model.specs.Marks.{MarksSpins}
 use Rattle.sg_model.proofs.draft.Draft.mark_lists.Given as goal
 

@@ -1,6 +1,6 @@
 use Rattle.std.proofs.Common.{◌≡◌, ℕ, ◌<◌, take, vec_len}
 use Rattle.sg_model.specs.Ising.{bond_count}
-use Rattle.sg_sums.specs.Sets.{holds, is_marked}
+use Rattle.sg_base.specs.Sets.{holds, is_marked}
 use Rattle.sg_model.proofs.instance.Instance.on_seam.Given as goal
 
 abbrev pub invariant-loop-bond : goal.invariant-loop-bond

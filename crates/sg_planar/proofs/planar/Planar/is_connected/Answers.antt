@@ -1,6 +1,6 @@
 use Rattle.std.proofs.Common.{◌≡◌, ◌∙◌, eq-eqb, length, subst, sym, eqb-true}
 use Rattle.sg_model.specs.Connected.{IsConnected}
-use Rattle.sg_walk.proofs.ComponentLaws.{connected_from_one, one_from_connected}
+use Rattle.sg_planar.proofs.ComponentLaws.{connected_from_one, one_from_connected}
 use Rattle.sg_planar.specs.Fit.{Embedding}
 use Rattle.sg_planar.proofs.planar.Planar.is_connected.Goals as goal
 

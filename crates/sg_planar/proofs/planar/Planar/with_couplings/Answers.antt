@@ -2,7 +2,7 @@ use Rattle.std.proofs.Common.{◌≡◌, ◌≤◌, length, sym, subst}
 use Rattle.sg_model.specs.Ising.{bond_count}
 use Rattle.sg_model.specs.Energy.{weight}
 use Rattle.sg_model.specs.Changes.{with_couplings}
-use Rattle.sg_limits.specs.Limits.{forced_limit}
+use Rattle.sg_base.specs.Limits.{forced_limit}
 use Rattle.sg_planar.specs.Fit.{Embedding}
 use Rattle.sg_planar.proofs.OtherCouplings.{components_redrawn, couplings_drawing, couplings_small, planar_redrawn}
 use Rattle.sg_planar.proofs.planar.Planar.with_couplings.Goals as goal

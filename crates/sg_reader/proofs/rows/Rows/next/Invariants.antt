@@ -1,5 +1,5 @@
 use Rattle.std.proofs.Common.{◌≡◌, ◌+◌, ◌<◌, ◌≤◌, ◌^◌, length, filter, sum_by}
-use Rattle.sg_limits.specs.Limits.{text_limit}
+use Rattle.sg_base.specs.Limits.{text_limit}
 use Rattle.sg_reader.specs.Kept.{is_kept, numbered_from}
 use Rattle.sg_reader.proofs.rows.Rows.next.Given as goal
 

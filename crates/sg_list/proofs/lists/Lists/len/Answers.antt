@@ -1,7 +1,0 @@
-use Rattle.std.proofs.Common.{arith}
-use Rattle.sg_list.proofs.PieceSteps.{length-pieces}
-use Rattle.sg_list.proofs.lists.Lists.len.Goals as goal
-
-pub returns : goal.returns
-returns g c =
-    grind (arith, length-pieces, c.self.view_is)

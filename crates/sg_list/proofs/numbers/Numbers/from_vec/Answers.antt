@@ -1,5 +1,0 @@
-use Rattle.std.proofs.Common.{rules}
-use Rattle.sg_list.proofs.numbers.Numbers.from_vec.Goals as goal
-
-pub returns : goal.returns
-returns g c = search rules

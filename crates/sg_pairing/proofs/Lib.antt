@@ -1,4 +1,0 @@
-pub mod TightLemmas
-pub mod PairingSums
-pub mod DualBound
-pub mod MetricLemmas

@@ -1,4 +1,0 @@
-pub mod Metric
-pub mod Fit
-pub mod Tight
-pub mod Matching

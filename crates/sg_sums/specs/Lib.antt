@@ -1,6 +1,0 @@
-pub mod Parity
-pub mod Sums
-pub mod Sets
-pub mod Ends
-pub mod Loads
-pub mod Naturals

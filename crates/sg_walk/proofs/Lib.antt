@@ -1,4 +1,0 @@
-pub mod Searches
-pub mod SpinNames
-pub mod LeastSpins
-pub mod ComponentLaws

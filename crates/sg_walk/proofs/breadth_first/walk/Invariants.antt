@@ -1,6 +1,0 @@
-use Rattle.sg_walk.specs.Walk.{has}
-use Rattle.sg_walk.specs.Search.{SearchedTo}
-use Rattle.sg_walk.proofs.breadth_first.walk.Given as goal
-
-abbrev pub invariant-loop-next : goal.invariant-loop-next
-invariant-loop-next l = SearchedTo l.inst (has l.set) l.root l.fn.marks l.marks l.order.items l.next

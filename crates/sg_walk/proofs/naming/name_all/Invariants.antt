@@ -1,6 +1,0 @@
-use Rattle.sg_walk.specs.Walk.{has}
-use Rattle.sg_walk.specs.Naming.{NamedTo}
-use Rattle.sg_walk.proofs.naming.name_all.Given as goal
-
-abbrev pub invariant-loop-spin : goal.invariant-loop-spin
-invariant-loop-spin l = NamedTo l.inst (has l.set) l.marks l.names l.spin
