@@ -32,7 +32,7 @@ impl Families {
 
     /// Whether a list found no memory.
     pub fn is_short(&self) -> bool {
-        self.families.is_short() || self.free.is_short()
+        self.families.is_short() | self.free.is_short()
     }
 
     /// A new family of a top, with base 0.

@@ -84,7 +84,7 @@ impl Radii {
 
     /// Whether a list found no memory.
     pub fn is_short(&self) -> bool {
-        self.growths.is_short() || self.parts.is_short() || self.families.is_short()
+        self.growths.is_short() | self.parts.is_short() | self.families.is_short()
     }
 
     #[inline(always)]

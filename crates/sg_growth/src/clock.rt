@@ -57,8 +57,8 @@ impl Clock {
 
     /// Whether a list found no memory.
     pub fn is_short(&self) -> bool {
-        let are_times = self.edges.is_short() || self.hubs.is_short() || self.regions.is_short();
-        are_times || self.agenda.is_short()
+        let are_times = self.edges.is_short() | self.hubs.is_short() | self.regions.is_short();
+        are_times | self.agenda.is_short()
     }
 
     /// Time 0 again, at which nothing waits.

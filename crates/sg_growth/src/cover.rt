@@ -104,7 +104,7 @@ impl Cover {
 
     /// Whether a list found no memory.
     pub fn is_short(&self) -> bool {
-        self.taken.is_short() || self.places.is_short() || self.rows.is_short()
+        self.taken.is_short() | self.places.is_short() | self.rows.is_short()
     }
 
     /// What the node's region knows of it, if one holds it.

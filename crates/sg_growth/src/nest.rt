@@ -132,8 +132,8 @@ impl Nest {
 
     /// Whether a list found no memory.
     pub fn is_short(&self) -> bool {
-        let are_regions = self.regions.is_short() || self.parts.is_short() || self.order.is_short();
-        are_regions || self.taken.is_short()
+        let are_regions = self.regions.is_short() | self.parts.is_short() | self.order.is_short();
+        are_regions | self.taken.is_short()
     }
 
     /// Adds a node that a region took itself.

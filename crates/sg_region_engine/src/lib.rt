@@ -243,9 +243,9 @@ impl<'a, L: Limit> Engine<'a, L> {
 
     /// Whether a list found no memory. Then something is missing, and nothing may be read off.
     pub fn is_short(&self) -> bool {
-        let are_own = self.cycle.is_short() || self.inner.is_short() || self.was_short;
-        let are_times = self.hubs.is_short() || self.clock.is_short() || self.batches.is_short();
-        are_own || are_times || self.cover.is_short() || self.forest.is_short()
+        let are_own = self.cycle.is_short() | self.inner.is_short() | self.was_short;
+        let are_times = self.hubs.is_short() | self.clock.is_short() | self.batches.is_short();
+        are_own | are_times | self.cover.is_short() | self.forest.is_short()
     }
 
     // Whether a run was done, unless it found no memory.

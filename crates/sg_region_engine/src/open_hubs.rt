@@ -48,7 +48,7 @@ impl Guests {
 
     // Whether a list found no memory.
     fn is_short(&self) -> bool {
-        self.lasts.is_short() || self.nexts.is_short()
+        self.lasts.is_short() | self.nexts.is_short()
     }
 }
 

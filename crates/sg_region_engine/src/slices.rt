@@ -45,7 +45,7 @@ impl Batches {
 
     // Whether a list found no memory.
     pub(super) fn is_short(&self) -> bool {
-        self.waiting.is_short() || self.has_mate.is_short()
+        self.waiting.is_short() | self.has_mate.is_short()
     }
 
     // Adds a tree without a mate.

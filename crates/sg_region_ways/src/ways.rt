@@ -79,9 +79,9 @@ impl Search {
 
     // Whether a list found no memory.
     fn is_short(&self) -> bool {
-        let are_marks = self.is_reached.is_short() || self.darts.is_short();
-        let is_open = self.waiting.is_short() || self.hubs.is_short();
-        are_marks || is_open || self.reached.is_short()
+        let are_marks = self.is_reached.is_short() | self.darts.is_short();
+        let is_open = self.waiting.is_short() | self.hubs.is_short();
+        are_marks | is_open | self.reached.is_short()
     }
 
     // Forgets all that was reached.
@@ -174,7 +174,7 @@ impl Ways {
 
     /// Whether a list found no memory. Then ways may be missing.
     pub fn is_short(&self) -> bool {
-        self.heights.is_short() || self.near.is_short() || self.far.is_short()
+        self.heights.is_short() | self.near.is_short() | self.far.is_short()
     }
 
     /// No node has a height.
@@ -253,7 +253,7 @@ impl Ways {
     }
 
     /// Turns the marks of the edges of a shortest way between two mates, and says whether there is one.
-    /// There is none, too, where a list is short.
+    /// Where a list is short, one may be missing.
     ///
     /// Cost: linear in the arcs of the nodes that are on shortest ways.
     pub fn turn_way(&mut self, adjacency: &Adjacency, mates: Mates, join: &mut Marks) -> bool {

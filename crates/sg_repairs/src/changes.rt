@@ -60,8 +60,8 @@ impl Changes {
 
     // Whether a list found no memory. Then something is missing, also of what was read off.
     pub fn is_short(&self) -> bool {
-        let are_own = self.turned.is_short() || self.walked.is_short() || self.was_short;
-        are_own || self.order.is_short() || self.ways.is_short()
+        let are_own = self.turned.is_short() | self.walked.is_short() | self.was_short;
+        are_own | self.order.is_short() | self.ways.is_short()
     }
 
     // Is short too where something is that was made beside it.

@@ -97,9 +97,9 @@ impl OldWays {
 
     // Whether a list found no memory.
     fn is_short(&self) -> bool {
-        let are_ways = self.mates.is_short() || self.stretches.is_short() || self.edges.is_short();
-        let are_over = self.starts.is_short() || self.over.is_short();
-        are_ways || are_over || self.is_in_join.is_short()
+        let are_ways = self.mates.is_short() | self.stretches.is_short() | self.edges.is_short();
+        let are_over = self.starts.is_short() | self.over.is_short();
+        are_ways | are_over | self.is_in_join.is_short()
     }
 
     // Adds the ways of all pairs, and says whether each was found.

@@ -28,7 +28,7 @@ impl Order {
 
     // Whether a list found no memory.
     pub fn is_short(&self) -> bool {
-        self.names.is_short() || self.places.is_short() || self.heights.is_short()
+        self.names.is_short() | self.places.is_short() | self.heights.is_short()
     }
 
     // The place of a region, counted from the end.

@@ -81,10 +81,10 @@ impl Reduced {
 
     /// Whether a list found no memory.
     pub fn is_short(&self) -> bool {
-        let are_bonds = self.bonds.is_short() || self.chain_of.is_short() || self.chains.is_short();
-        let are_marks = self.is_turned.is_short() || self.is_new.is_short();
-        let are_kept = self.kept.is_short() || self.kept_ends.is_short();
-        are_bonds || are_marks || are_kept || self.first.is_short()
+        let are_bonds = self.bonds.is_short() | self.chain_of.is_short() | self.chains.is_short();
+        let are_marks = self.is_turned.is_short() | self.is_new.is_short();
+        let are_kept = self.kept.is_short() | self.kept_ends.is_short();
+        are_bonds | are_marks | are_kept | self.first.is_short()
     }
 
     // Adds what it costs to turn each chain.

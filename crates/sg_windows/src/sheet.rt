@@ -40,8 +40,8 @@ impl Sheet {
 
     /// Whether a list found no memory.
     pub fn is_short(&self) -> bool {
-        let are_bonds = self.ends.is_short() || self.sides.is_short() || self.couplings.is_short();
-        are_bonds || self.starts.is_short() || self.darts.is_short()
+        let are_bonds = self.ends.is_short() | self.sides.is_short() | self.couplings.is_short();
+        are_bonds | self.starts.is_short() | self.darts.is_short()
     }
 
     // Adds the bonds.

@@ -30,7 +30,7 @@ impl NodeNames {
 
     /// Whether a list found no memory.
     pub fn is_short(&self) -> bool {
-        self.names.is_short() || self.nodes.is_short()
+        self.names.is_short() | self.nodes.is_short()
     }
 
     // The number of a node, a new one if it has none.
@@ -99,7 +99,7 @@ impl Window {
 
     /// Whether a list found no memory.
     pub fn is_short(&self) -> bool {
-        self.list.is_short() || self.chains.is_short()
+        self.list.is_short() | self.chains.is_short()
     }
 
     // What it costs to turn an edge of the window.
