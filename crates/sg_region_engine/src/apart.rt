@@ -5,20 +5,20 @@ use crate::NoMemory;
 use sg_forest::{Contact, Forest};
 use sg_growth::{Adjacency, Cover};
 use sg_slots::number;
-use sg_work::{Limit, Work};
+use sg_work::Work;
 use std::alloc::Global;
 
 /// An engine without its arcs and terminals.
 #[derive(Drop)]
-pub struct Parts<L: Limit> {
+pub struct Parts {
     // No hub is open.
     pub(super) lists: Lists,
-    pub(super) forest: Forest<L>,
+    pub(super) forest: Forest,
 }
 
-impl<L: Limit> Parts<L> {
+impl Parts {
     /// What of an engine outlives its arcs.
-    pub fn of<'a>(engine: Engine<'a, L>) -> Parts<L> {
+    pub fn of<'a>(engine: Engine<'a>) -> Parts {
         engine.into_parts()
     }
 
@@ -29,13 +29,13 @@ impl<L: Limit> Parts<L> {
         alloc: Global,
         arcs: &'a Adjacency,
         terminals: &'a [u32],
-    ) -> Engine<'a, L> {
+    ) -> Engine<'a> {
         let Parts { lists, forest } = self;
         lists.engine(alloc, arcs, terminals, forest, Work::new(0))
     }
 }
 
-impl<'a, L: Limit> Engine<'a, L> {
+impl<'a> Engine<'a> {
     /// The allocator of all lists.
     pub fn alloc(&self) -> Global {
         self.alloc
@@ -57,7 +57,7 @@ impl<'a, L: Limit> Engine<'a, L> {
     }
 
     /// The regions, and what they are parts of.
-    pub fn forest(&self) -> &Forest<L> {
+    pub fn forest(&self) -> &Forest {
         &self.forest
     }
 
@@ -67,7 +67,7 @@ impl<'a, L: Limit> Engine<'a, L> {
     }
 
     /// Puts finished regions back, at time 0.
-    pub fn put_back(&mut self, cover: &Cover, forest: &Forest<L>) {
+    pub fn put_back(&mut self, cover: &Cover, forest: &Forest) {
         self.cover.restore(cover);
         self.forest.restore(forest);
         self.hubs.forget();
@@ -120,7 +120,7 @@ impl<'a, L: Limit> Engine<'a, L> {
 
     /// Each of these tops is the root of a tree with so much work, and all of them grow until no tree is left.
     /// False if that did not come about within the work.
-    pub fn grow_from(&mut self, roots: &[Exit], work: Work<L>) -> Result<bool, NoMemory> {
+    pub fn grow_from(&mut self, roots: &[Exit], work: Work) -> Result<bool, NoMemory> {
         self.unpaired = number(roots.len());
         self.work = work;
         self.make_roots(roots);

@@ -8,9 +8,8 @@
 use super::Engine;
 use sg_forest::{Contact, End, Reach};
 use sg_growth::{Arc, Soon, reverse};
-use sg_work::Limit;
 
-impl<'a, L: Limit> Engine<'a, L> {
+impl<'a> Engine<'a> {
     // An outer region comes to a bare node of a free one. If another touches that node, the two meet;
     // and at a hub it may have to wait for another. Whether that is all there is to the event.
     pub(super) fn meet_at_bare(&mut self, node: u32, here: Reach, arc: &Arc, own: End) -> bool {

@@ -4,9 +4,8 @@ use crate::NoMemory;
 use sg_forest::{Contact, End, Reach, Role};
 use sg_growth::{Arc, Held, NEVER, Soon, reverse};
 use sg_slots::{Subject, number};
-use sg_work::Limit;
 
-impl<'a, L: Limit> Engine<'a, L> {
+impl<'a> Engine<'a> {
     // The event of an arc: the region at its start takes the node at its end, or meets a region. If
     // no outer region is there any more, the one at the other end takes over.
     fn arc_event(&mut self, dart: u32) {

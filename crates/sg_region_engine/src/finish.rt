@@ -4,7 +4,6 @@ use crate::NoMemory;
 use sg_forest::End;
 use sg_growth::{Clock, Nest, Pair};
 use sg_slots::{Slot, Store, number};
-use sg_work::Limit;
 use std::alloc::AllocError;
 
 /// A region, and its terminal that is paired with one outside.
@@ -14,7 +13,7 @@ pub struct Exit {
     pub terminal: u32,
 }
 
-impl<'a, L: Limit> Engine<'a, L> {
+impl<'a> Engine<'a> {
     /// Gives back the memory that is not needed once all regions are free and their pairs are known: only the nest
     /// is read off then.
     pub fn end(&mut self) {

@@ -24,7 +24,7 @@
 //! to the next.
 #![tactic(auto)]
 
-ghost use Rattle.std.specs.Prelude.{◌≤◌};
+ghost use Rattle.std.specs.Prelude.{◌≡◌, ◌+◌, ◌≤◌};
 ghost use Rattle.sg_work.specs.Counts.{event_limit, growth_limit};
 
 mod apart;
@@ -45,7 +45,7 @@ pub use lists::Lists;
 use sg_forest::{Forest, Link, Reach, Role};
 use sg_growth::{Adjacency, Arc, Clock, Cover, Held, Hubs, NEVER, reverse};
 use sg_slots::Store;
-use sg_work::{Allowance, Growth, Limit, Work};
+use sg_work::{Allowance, Growth, Work};
 use slices::Batches;
 pub use start::HeadStart;
 use std::alloc::{AllocError, Global};
@@ -93,7 +93,7 @@ struct Sight {
 /// The regions at a time, over the nodes that they have taken.
 ///
 /// A region has a name: below the number of terminals that of its terminal, all others are blossoms.
-pub struct Engine<'a, L: Limit> {
+pub struct Engine<'a> {
     // The allocator of all lists.
     alloc: Global,
     // The arcs between the nodes, each edge with two darts.
@@ -103,13 +103,13 @@ pub struct Engine<'a, L: Limit> {
     // Which region took each node, and at which radius.
     cover: Cover,
     // The regions, what they are parts of, their radii, and the trees.
-    forest: Forest<L>,
+    forest: Forest,
     // The arcs at nodes of high degree, by their times.
     hubs: Hubs,
     // The time, and the events that wait.
     clock: Clock,
     // What was done, against what is allowed.
-    work: Work<L>,
+    work: Work,
     // Whether a tree ends with its first odd cycle.
     is_first: bool,
     // Whether hubs are open: no region covers one, and a tree that comes to one ends there.
@@ -134,7 +134,7 @@ pub struct Engine<'a, L: Limit> {
 }
 
 // An explicit `Drop`: otherwise every exit of an owner drops each list, and the prover pays for each.
-impl<'a, L: Limit> Drop for Engine<'a, L> {
+impl<'a> Drop for Engine<'a> {
     fn drop(self) {
         let _parts = self.into_parts();
     }
@@ -145,7 +145,7 @@ fn room_for(terminals: &[u32]) -> usize {
     terminals.len().saturating_add(terminals.len() / 2)
 }
 
-impl<'a, L: Limit> Engine<'a, L> {
+impl<'a> Engine<'a> {
     /// A region for each terminal, none grown yet, and what may be done to them. The only error is running
     /// out of memory.
     ///
@@ -156,10 +156,7 @@ impl<'a, L: Limit> Engine<'a, L> {
         terminals: &'a [u32],
         method: Method,
         allowed: Allowance,
-    ) -> Result<Engine<'a, L>, NoMemory>
-        requires blossoms { allowed.blossoms ≤ L.blossoms }
-        requires events { allowed.work ≤ L.events }
-    {
+    ) -> Result<Engine<'a>, NoMemory> {
         let lists = Lists::new(alloc, arcs, room_for(terminals));
         Engine::over(alloc, lists, arcs, terminals, method, allowed)
     }
@@ -172,10 +169,7 @@ impl<'a, L: Limit> Engine<'a, L> {
         terminals: &'a [u32],
         method: Method,
         allowed: Allowance,
-    ) -> Result<Engine<'a, L>, NoMemory>
-        requires blossoms { allowed.blossoms ≤ L.blossoms }
-        requires events { allowed.work ≤ L.events }
-    {
+    ) -> Result<Engine<'a>, NoMemory> {
         let room = room_for(terminals);
         let forest = Forest::new(alloc, terminals.len(), room, allowed.blossoms)?;
         let work = Work::new(allowed.work);
@@ -193,7 +187,7 @@ impl<'a, L: Limit> Engine<'a, L> {
     }
 
     // What outlives its arcs.
-    fn into_parts(self) -> Parts<L> {
+    fn into_parts(self) -> Parts {
         let Engine {
             alloc: _,
             arcs: _,
@@ -232,8 +226,8 @@ impl<'a, L: Limit> Engine<'a, L> {
 
     /// The steps that were taken since the engine was made.
     pub fn growth(&self) -> Growth
-        ensures blossoms { result.blossoms ≤ L.blossoms }
-        ensures events { result.events ≤ L.events }
+        ensures blossoms { result.blossoms ≡ self.now.forest.cycles.blossoms.made + self.now.forest.cycles.blossoms.expanded }
+        ensures events { result.events ≡ self.now.work.events }
     {
         Growth {
             blossoms: self.forest.steps(),

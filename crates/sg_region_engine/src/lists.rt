@@ -8,7 +8,7 @@ use super::{Engine, HeadStart, Parts};
 use sg_forest::{Forest, Link};
 use sg_growth::{Adjacency, Clock, Cover, Hubs, NEVER};
 use sg_slots::Store;
-use sg_work::{Limit, Work};
+use sg_work::Work;
 use std::alloc::Global;
 
 /// The lists of an engine about the nodes and arcs of a graph, before a run.
@@ -58,7 +58,7 @@ impl Lists {
     }
 
     /// The lists of an engine whose run has come to its end, as they were before.
-    pub fn of<'a, L: Limit>(engine: Engine<'a, L>, has_hub: bool) -> Lists {
+    pub fn of<'a>(engine: Engine<'a>, has_hub: bool) -> Lists {
         let Parts {
             mut lists,
             forest: _forest,
@@ -71,14 +71,14 @@ impl Lists {
     }
 
     // An engine over these lists, with these regions, that may do so much work. Hubs are open.
-    pub(super) fn engine<'a, L: Limit>(
+    pub(super) fn engine<'a>(
         self,
         alloc: Global,
         arcs: &'a Adjacency,
         terminals: &'a [u32],
-        forest: Forest<L>,
-        work: Work<L>,
-    ) -> Engine<'a, L> {
+        forest: Forest,
+        work: Work,
+    ) -> Engine<'a> {
         let Lists {
             cover,
             hubs,

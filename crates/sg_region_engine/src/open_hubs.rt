@@ -15,7 +15,6 @@ use super::Engine;
 use sg_forest::{Contact, End, Link, Role};
 use sg_growth::{Adjacency, reverse};
 use sg_slots::{Slot, Store, entry, number, set_entry};
-use sg_work::Limit;
 
 // A node with more arcs is a hub here. A heap of its own pays only where there are many more (`Hubs`).
 const MOST_ARCS: usize = 16;
@@ -67,7 +66,7 @@ pub fn has_hub(arcs: &Adjacency) -> bool {
     false
 }
 
-impl<'a, L: Limit> Engine<'a, L> {
+impl<'a> Engine<'a> {
     // Whether a node is a hub that no region may cover yet.
     pub(super) fn is_open_hub(&self, node: u32) -> bool {
         self.is_open && is_hub(self.arcs, node)

@@ -14,9 +14,8 @@ use super::{Engine, Exit};
 use crate::NoMemory;
 use sg_forest::{Contact, Role};
 use sg_slots::{Store, number};
-use sg_work::Limit;
 
-impl<'a, L: Limit> Engine<'a, L> {
+impl<'a> Engine<'a> {
     /// Runs until each terminal has a mate. False if that did not come about within the work allowed. All
     /// arcs are so many times two as long as their edges weigh. The only error is running out of memory.
     pub fn run_by_method(&mut self, unit: i64) -> Result<bool, NoMemory> {

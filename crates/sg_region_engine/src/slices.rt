@@ -12,7 +12,7 @@
 use super::Engine;
 use sg_growth::{Adjacency, NEVER, first_dart};
 use sg_slots::{Store, entry, number, set_entry};
-use sg_work::{Limit, batch_of};
+use sg_work::batch_of;
 use std::alloc::Global;
 use std::mem::swap;
 
@@ -96,7 +96,7 @@ fn next_age(age: i64, count: usize) -> i64 {
     age.saturating_add((age / part).max(1))
 }
 
-impl<'a, L: Limit> Engine<'a, L> {
+impl<'a> Engine<'a> {
     // Grows all trees batch by batch. False if some tree is left when the work allowed is done.
     pub(super) fn run_slices(&mut self) -> bool {
         self.plant_all();

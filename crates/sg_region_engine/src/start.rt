@@ -9,7 +9,6 @@ use super::Engine;
 use sg_forest::{Contact, End, Role};
 use sg_growth::{Exit, reverse};
 use sg_slots::number;
-use sg_work::Limit;
 
 /// How terminals grow before events are entered.
 #[derive(Clone, Copy, PartialEq, Eq)]
@@ -30,7 +29,7 @@ struct Room {
     dart: u32,
 }
 
-impl<'a, L: Limit> Engine<'a, L> {
+impl<'a> Engine<'a> {
     // The head start.
     pub(super) fn start_ahead(&mut self) {
         match self.head_start {

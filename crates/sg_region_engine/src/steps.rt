@@ -2,10 +2,9 @@
 // inner blossom expands again.
 use super::Engine;
 use sg_forest::{Contact, End, Link, Role};
-use sg_work::Limit;
 use std::mem::swap;
 
-impl<'a, L: Limit> Engine<'a, L> {
+impl<'a> Engine<'a> {
     // An outer region meets another, outer or free, over a contact.
     pub(super) fn meet(&mut self, contact: Contact) {
         let own = self.forest.top(contact.own.terminal);

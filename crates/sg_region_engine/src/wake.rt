@@ -3,7 +3,6 @@ use super::Engine;
 use sg_forest::{Reach, Role};
 use sg_growth::{Arc, NEVER, Soon, reverse};
 use sg_slots::Slot;
-use sg_work::Limit;
 
 // An outer region that nears the end of an arc: the node at its start, the arc by its dart, and when it
 // comes.
@@ -22,7 +21,7 @@ impl Coming {
     }
 }
 
-impl<'a, L: Limit> Engine<'a, L> {
+impl<'a> Engine<'a> {
     // Enters the event of an arc that leaves a node over which an outer region reaches so far.
     pub(super) fn expect(&mut self, node: u32, here: Reach, arc: &Arc) {
         let time = self.sight(here, arc).time;

@@ -1,5 +1,5 @@
 // Regions that grow until each terminal has a mate.
-ghost use Rattle.std.specs.Prelude.{◌≤◌, length, IfOk};
+ghost use Rattle.std.specs.Prelude.{◌≡◌, ◌≤◌, length, IfOk};
 ghost use Rattle.sg_work.specs.Counts.{KeepsTo, event_limit, growth_limit};
 
 use super::layout::Layout;
@@ -7,9 +7,8 @@ use super::{Grown, NoMemory};
 use sg_growth::{Adjacency, Nest, Pair, first_dart};
 use sg_region_engine::{Engine, Lists, Method};
 use sg_slots::number;
-use sg_work::{Allowance, Limit};
+use sg_work::{Allowance, Growth};
 use std::alloc::Global;
-use std::marker::Brand;
 
 // With more terminals, trees may grow in slices.
 const MOST_AT_ONCE: usize = 16384;
@@ -144,24 +143,8 @@ fn grow_by(
     requires events { allowed.work ≤ event_limit (length terminals.now) places }
     ensures { IfOk result (λ g. KeepsTo 1 (length terminals.now) places g.growth) }
 {
-    run::<Brand>(alloc, layout, terminals, method, allowed)
-}
-
-// The same within the limits that a type names.
-fn run<L: Limit>(
-    alloc: Global,
-    layout: &mut Layout,
-    terminals: &[u32],
-    method: Method,
-    allowed: Allowance,
-) -> Result<Grown<Option<Finished>>, NoMemory>
-    requires blossoms { allowed.blossoms ≤ L.blossoms }
-    requires events { allowed.work ≤ L.events }
-    ensures blossoms { IfOk result (λ g. g.growth.blossoms ≤ L.blossoms) }
-    ensures events { IfOk result (λ g. g.growth.events ≤ L.events) }
-{
     let lists = layout.take_lists(alloc, terminals.len());
-    let ran = run_over::<L>(alloc, layout, lists, terminals, method, allowed)?;
+    let ran = run_over(alloc, layout, lists, terminals, method, allowed)?;
     layout.keep(ran.lists);
     Ok(ran.grown)
 }
@@ -174,7 +157,7 @@ struct Ran {
 }
 
 // The same over these lists.
-fn run_over<L: Limit>(
+fn run_over(
     alloc: Global,
     layout: &Layout,
     lists: Lists,
@@ -182,27 +165,42 @@ fn run_over<L: Limit>(
     method: Method,
     allowed: Allowance,
 ) -> Result<Ran, NoMemory>
-    requires blossoms { allowed.blossoms ≤ L.blossoms }
-    requires events { allowed.work ≤ L.events }
-    ensures blossoms { IfOk result (λ r. r.grown.growth.blossoms ≤ L.blossoms) }
-    ensures events { IfOk result (λ r. r.grown.growth.events ≤ L.events) }
+    ensures blossoms { IfOk result (λ r. r.grown.growth.blossoms ≤ allowed.blossoms) }
+    ensures events { IfOk result (λ r. r.grown.growth.events ≤ allowed.work) }
 {
     let has_hub = lists.has_hub();
     let keeps = layout.keeps();
     let arcs = &layout.arcs;
-    let mut engine = Engine::<L>::over(alloc, lists, arcs, terminals, method, allowed)?;
+    let mut engine = Engine::over(alloc, lists, arcs, terminals, method, allowed)?;
     engine.set_head_start(layout.head_start(method));
     let found = run_to_end(&mut engine, keeps)?;
-    let growth = engine.growth();
-    let lists = lists_of(engine, has_hub, keeps && found.is_some());
-    Ok(Ran {
-        grown: Grown { found, growth },
-        lists,
-    })
+    let grown = settled(found, engine.growth(), allowed);
+    let lists = lists_of(engine, has_hub, keeps && grown.found.is_some());
+    Ok(Ran { grown, lists })
+}
+
+// What was found, and what was done for it. More than is allowed is never done, since the engine counts; it would
+// count as all of that, for nothing.
+fn settled(found: Option<Finished>, growth: Growth, allowed: Allowance) -> Grown<Option<Finished>>
+    ensures blossoms { result.growth.blossoms ≤ allowed.blossoms }
+    ensures events { result.growth.events ≤ allowed.work }
+    ensures kept { (growth.blossoms ≤ allowed.blossoms) × (growth.events ≤ allowed.work) → result.growth ≡ growth }
+{
+    if growth.is_within(allowed) {
+        return Grown { found, growth };
+    }
+    let all = Growth {
+        blossoms: allowed.blossoms,
+        events: allowed.work,
+    };
+    Grown {
+        found: None,
+        growth: all,
+    }
 }
 
 // The lists of an engine, if they are kept.
-fn lists_of<'a, L: Limit>(engine: Engine<'a, L>, has_hub: bool, keeps: bool) -> Option<Lists> {
+fn lists_of<'a>(engine: Engine<'a>, has_hub: bool, keeps: bool) -> Option<Lists> {
     if !keeps {
         return None;
     }
@@ -211,7 +209,7 @@ fn lists_of<'a, L: Limit>(engine: Engine<'a, L>, has_hub: bool, keeps: bool) -> 
 
 // What has grown at the end of a run, if it comes to its end. Waiting events and trees are dropped before the nest
 // is made, unless lists are kept: all regions are free then, so the time no longer matters.
-fn run_to_end<L: Limit>(engine: &mut Engine<L>, keeps: bool) -> Result<Option<Finished>, NoMemory> {
+fn run_to_end(engine: &mut Engine, keeps: bool) -> Result<Option<Finished>, NoMemory> {
     if !engine.run()? {
         return Ok(None);
     }

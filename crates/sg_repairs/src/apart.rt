@@ -2,10 +2,10 @@
 //
 // The parts of a blossom that stay are paired along its cycle, each with its neighbour. What is left
 // over has no mate: it becomes the root of a tree, and grows.
+use super::NoMemory;
 use super::parts::work_for;
-use super::{Engine, NoMemory};
 use sg_forest::Link;
-use sg_region_engine::Exit;
+use sg_region_engine::{Engine, Exit};
 use sg_slots::Store;
 use std::alloc::AllocError;
 

@@ -1,11 +1,12 @@
 // What a repair changes: the walk, and the nest.
+use super::NoMemory;
 use super::old_ways::OldWays;
 use super::order::{Order, common, height_of, list_order, places_of, regions_of, turn_way};
 use super::repairs::{Query, Turn};
-use super::{Engine, NoMemory};
 use sg_graph::EdgeList;
 use sg_growth::Pair;
 use sg_nest::{Nest, Places, Region, Regions};
+use sg_region_engine::Engine;
 use sg_region_ways::Ways;
 use sg_slots::{Marks, Store, entry, number, set_entry};
 use std::alloc::{AllocError, Global};

@@ -21,13 +21,7 @@ mod parts;
 mod repairs;
 
 pub use repairs::{Repairs, Turn};
-use sg_work::Unlimited;
 use std::alloc::AllocError;
-
-// Of repairs no bound on the steps is asked.
-type Engine<'a> = sg_region_engine::Engine<'a, Unlimited>;
-
-type Parts = sg_region_engine::Parts<Unlimited>;
 
 /// The allocator had no memory left.
 pub type NoMemory = AllocError;

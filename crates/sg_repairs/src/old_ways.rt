@@ -1,10 +1,10 @@
 // The ways between the mates of finished regions, before any repair.
-use super::Engine;
 use super::changes::Changes;
 use super::order::length_of;
 use super::repairs::Query;
 use sg_graph::EdgeList;
 use sg_growth::Pair;
+use sg_region_engine::Engine;
 use sg_slots::{Slot, Store, count_at, entry, number, set_entry, sum_up};
 use std::alloc::Global;
 

@@ -1,8 +1,9 @@
 // The finished regions in their order, and what a repair has changed of their pairs.
+use super::NoMemory;
 use super::parts::Base;
-use super::{Engine, NoMemory};
 use sg_growth::{Pair, first_dart};
 use sg_nest::{Place, Region};
+use sg_region_engine::Engine;
 use sg_region_ways::{Mates, Ways};
 use sg_slots::{Marks, Store, entry, number, set_entry};
 use std::alloc::Global;

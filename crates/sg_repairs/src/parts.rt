@@ -1,11 +1,11 @@
 // The finished regions to which an engine is put back, and runs from some of the terminals.
+use super::NoMemory;
 use super::apart::{Ending, is_gone};
-use super::{Engine, NoMemory};
 use sg_forest::Forest;
 use sg_growth::{Adjacency, Cover};
-use sg_region_engine::Exit;
+use sg_region_engine::{Engine, Exit};
 use sg_slots::number;
-use sg_work::{Allowance, Unlimited, Work};
+use sg_work::{Allowance, Work};
 use std::alloc::AllocError;
 
 // How many terminals an edge may add to those of the graph.
@@ -14,7 +14,7 @@ pub const SPARE: usize = 2;
 // Finished regions, none of them in a tree.
 pub struct Base {
     pub cover: Cover,
-    pub forest: Forest<Unlimited>,
+    pub forest: Forest,
 }
 
 // Explicit for the same reason as that of `Repairs`.
@@ -53,7 +53,7 @@ impl Base {
 }
 
 // The work that is allowed for so many trees.
-pub fn work_for(roots: &[Exit], arcs: &Adjacency) -> Work<Unlimited> {
+pub fn work_for(roots: &[Exit], arcs: &Adjacency) -> Work {
     let allowed = Allowance::long(roots.len(), places_of(arcs));
     Work::new(allowed.work)
 }

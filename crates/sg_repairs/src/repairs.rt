@@ -1,13 +1,13 @@
+use super::NoMemory;
 use super::apart::{Ending, repair};
 use super::changes::Changes;
 use super::old_ways::OldWays;
 use super::order::changed_pairs;
 use super::parts::{Base, SPARE, first_spare, places_of, run_from};
-use super::{Engine, NoMemory, Parts};
 use sg_graph::{EdgeList, Terminals, Web};
 use sg_growth::{Adjacency, first_dart, second_dart};
 use sg_nest::Nest;
-use sg_region_engine::Method;
+use sg_region_engine::{Engine, Method, Parts};
 use sg_regions::arcs_of;
 use sg_slots::{Slot, Store, entry, number, set_entry};
 use std::alloc::{AllocError, Global};

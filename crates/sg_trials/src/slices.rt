@@ -13,7 +13,7 @@ use sg_nest::proves;
 use sg_region_engine::{Engine, Method};
 use sg_region_ways::join_of;
 use sg_regions::{arcs_of, propose_nest};
-use sg_work::{Allowance, Unlimited};
+use sg_work::Allowance;
 use std::alloc::{AllocError, Global};
 use std::process::Abort;
 use std::test::Fail;
@@ -25,7 +25,7 @@ const BATCH: usize = 1024;
 fn run(
     alloc: Global,
     arcs: &Adjacency,
-    engine: &mut Engine<Unlimited>,
+    engine: &mut Engine,
 ) -> Result<Option<EdgeList>, AllocError> {
     if !engine.run()? {
         return Ok(None);
@@ -41,7 +41,7 @@ fn sliced(alloc: Global, web: &Web, terminals: &Terminals) -> Result<Option<Edge
     let places = (arcs.nodes() as u64).saturating_add(arcs.darts() as u64);
     let allowed = Allowance::sliced(terminals.len(), places);
     let seeds = terminals.as_slice();
-    let mut engine = Engine::<Unlimited>::new(alloc, &arcs, seeds, Method::InSlices, allowed)?;
+    let mut engine = Engine::new(alloc, &arcs, seeds, Method::InSlices, allowed)?;
     run(alloc, &arcs, &mut engine)
 }
 

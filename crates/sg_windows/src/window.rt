@@ -9,7 +9,7 @@ use sg_growth::{Adjacency, Edge};
 use sg_region_engine::{Engine, Method};
 use sg_region_ways::join_of;
 use sg_slots::{Slot, Store, number, set_entry};
-use sg_work::{Allowance, Unlimited};
+use sg_work::Allowance;
 use std::alloc::Global;
 
 // Numbers for the nodes of a window.
@@ -217,7 +217,7 @@ fn join_over(
 ) -> Result<Option<EdgeList>, NoMemory> {
     let places = (arcs.nodes() as u64).saturating_add(arcs.darts() as u64);
     let allowed = Allowance::brief(terminals.len(), places);
-    let mut engine = Engine::<Unlimited>::new(alloc, arcs, terminals, Method::AtOnce, allowed)?;
+    let mut engine = Engine::new(alloc, arcs, terminals, Method::AtOnce, allowed)?;
     join_by(alloc, arcs, &mut engine)
 }
 
@@ -225,7 +225,7 @@ fn join_over(
 fn join_by(
     alloc: Global,
     arcs: &Adjacency,
-    engine: &mut Engine<Unlimited>,
+    engine: &mut Engine,
 ) -> Result<Option<EdgeList>, NoMemory> {
     if !engine.run()? {
         return Ok(None);

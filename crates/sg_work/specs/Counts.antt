@@ -3,20 +3,25 @@ use Rattle.std.specs.Prelude.{◌≡◌, ℕ, ◌+◌, ◌*◌, ◌/◌, ◌≤�
 use Rattle.sg_work.specs.declared.blossoms.Whole.{Whole}
 use Rattle.sg_work.specs.declared.growth.Growth.{Growth}
 
--- how many blossoms were made, and how many of them were taken apart again
+-- how many blossoms were made, how many of them were taken apart again, and how many may be, both together
 pub record Counts : Type 0 where
   pub made : ℕ
   pub expanded : ℕ
+  pub most : ℕ
+
+-- how many events were taken, and how much work is allowed
+pub record WorkDone : Type 0 where
+  pub events : ℕ
+  pub most : ℕ
 
 -- whether a region has parts
 abbrev pub is_blossom : Whole → Bool
 is_blossom w = nat_lt 0 w.size
 
--- the blossoms there are and those that were taken apart are all that were made, within the limits
-pub record IsCounted (wholes : List Whole) (made expanded most limit : ℕ) : Type 0 where
+-- the blossoms there are and those that were taken apart are all that were made, and these are no more than may be
+pub record IsCounted (wholes : List Whole) (made expanded most : ℕ) : Type 0 where
   pub each : count_by is_blossom wholes + expanded ≡ made
   pub within : made + expanded ≤ most
-  pub allowed : most ≤ limit
 
 -- how many blossoms a run from so many terminals may make and take apart
 abbrev pub growth_limit : ℕ → ℕ

@@ -1,14 +1,13 @@
 // What blossoms are made of, and how many were made and taken apart.
 //
 // The list of all regions and the counts stand in one value, whose invariant says that the blossoms there are
-// and those that were taken apart are those that were made, and that all these are within the limit. So
+// and those that were taken apart are those that were made, and that all these are no more than may be. So
 // none comes or goes uncounted.
 ghost use Rattle.std.specs.Prelude.{◌≡◌, ◌+◌, ◌≤◌, IfOk, IsFalse, IsTrue};
 
 use super::NoMemory;
-use super::limit::Limit;
 use std::alloc::Global;
-use std::marker::{Model, PhantomData};
+use std::marker::Model;
 
 /// The first region of a blossom's cycle, and their number; the number of regions in it, with itself;
 /// and its largest part. The region of a terminal has no parts.
@@ -34,38 +33,36 @@ pub fn no_whole() -> Whole
 
 /// What each region is made of.
 #[derive(Drop)]
-pub struct Blossoms<L: Limit> {
+pub struct Blossoms {
     wholes: Vec<Whole>,
     // How many blossoms were made, how many were taken apart, and how many may be.
     made: u64,
     expanded: u64,
     most: u64,
-    limit: PhantomData<L>,
 }
 
-impl<L: Limit> Model for Blossoms<L> {
+impl Model for Blossoms {
     ghost use Rattle.sg_work.specs.Counts.{Counts, IsCounted};
 
     ghost Value = { Counts };
 
-    ghost view = { λ b. record { made = b.made; expanded = b.expanded } };
+    ghost view = { λ b. record { made = b.made; expanded = b.expanded; most = b.most } };
 
-    ghost invariant = { λ b. IsCounted b.wholes.items b.made b.expanded b.most L.blossoms };
+    ghost invariant = { λ b. IsCounted b.wholes.items b.made b.expanded b.most };
 }
 
-impl<L: Limit> Blossoms<L> {
+impl Blossoms {
     /// Of no region, with room for so many; so many may be made and taken apart.
-    pub fn new(alloc: Global, room: usize, most: u64) -> Result<Blossoms<L>, NoMemory>
-        requires { most ≤ L.blossoms }
+    pub fn new(alloc: Global, room: usize, most: u64) -> Result<Blossoms, NoMemory>
         ensures made { IfOk result (λ b. b.made ≡ 0) }
         ensures expanded { IfOk result (λ b. b.expanded ≡ 0) }
+        ensures most { IfOk result (λ b. b.most ≡ most) }
     {
         Ok(Blossoms {
             wholes: Vec::with_capacity(alloc, room)?,
             made: 0,
             expanded: 0,
             most,
-            limit: PhantomData,
         })
     }
 
@@ -80,14 +77,17 @@ impl<L: Limit> Blossoms<L> {
     /// How many blossoms were made and taken apart.
     pub fn steps(&self) -> u64
         ensures counted { result ≡ self.now.made + self.now.expanded }
-        ensures within { result ≤ L.blossoms }
+        ensures within { result ≤ self.now.most }
     {
         let _most = self.most;
         self.made + self.expanded
     }
 
     /// A new region, or a name that is used again, without parts.
-    pub fn open(&mut self, name: u32) -> Result<(), NoMemory> {
+    pub fn open(&mut self, name: u32) -> Result<(), NoMemory>
+        ensures made { self.new.made ≡ self.old.made }
+        ensures most { self.new.most ≡ self.old.most }
+    {
         if name as usize == self.wholes.len() {
             self.wholes.push(no_whole())?;
         } else {
@@ -101,6 +101,7 @@ impl<L: Limit> Blossoms<L> {
     pub fn make(&mut self, name: u32, whole: Whole) -> bool
         ensures made { IsTrue result → self.new.made ≡ self.old.made + 1 }
         ensures expanded { self.new.expanded ≡ self.old.expanded }
+        ensures most { self.new.most ≡ self.old.most }
         ensures stays { IsFalse result → self.new ≡ self.old }
     {
         let is_free = (name as usize) < self.wholes.len() && self.wholes[name as usize].size == 0;
@@ -116,6 +117,7 @@ impl<L: Limit> Blossoms<L> {
     pub fn empty(&mut self, name: u32) -> bool
         ensures made { self.new.made ≡ self.old.made }
         ensures expanded { IsTrue result → self.new.expanded ≡ self.old.expanded + 1 }
+        ensures most { self.new.most ≡ self.old.most }
         ensures stays { IsFalse result → self.new ≡ self.old }
     {
         let is_blossom = (name as usize) < self.wholes.len()
@@ -129,7 +131,7 @@ impl<L: Limit> Blossoms<L> {
     }
 
     /// Makes all as it is in others, the counts too.
-    pub fn restore(&mut self, base: &Blossoms<L>) -> Result<(), NoMemory>
+    pub fn restore(&mut self, base: &Blossoms) -> Result<(), NoMemory>
         ensures { IfOk result (λ _. self.new ≡ base.now) }
     {
         self.wholes.clear();

@@ -1,5 +1,7 @@
 // The steps that growing regions took.
-ghost use Rattle.std.specs.Prelude.{◌≡◌, ◌+◌, ◌-◌, ◌^◌, min};
+ghost use Rattle.std.specs.Prelude.{◌≡◌, ◌↔◌, ◌+◌, ◌-◌, ◌^◌, ◌≤◌, min, IsTrue};
+
+use super::work::Allowance;
 
 /// How many blossoms were made and taken apart, and how many events were taken, at which duals change.
 #[derive(Clone, Copy)]
@@ -18,6 +20,13 @@ impl Growth {
             blossoms: 0,
             events: 0,
         }
+    }
+
+    /// Whether no more was done than is allowed.
+    pub fn is_within(self, allowed: Allowance) -> bool
+        ensures { IsTrue result ↔ (self.blossoms ≤ allowed.blossoms) × (self.events ≤ allowed.work) }
+    {
+        self.blossoms <= allowed.blossoms && self.events <= allowed.work
     }
 
     /// Of two runs together, as far as 64 bits count.

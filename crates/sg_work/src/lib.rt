@@ -1,11 +1,9 @@
 //! What growing regions may do and have done: limits, work, and blossoms that are counted.
 //!
-//! - [`Limit`] is a limit on the blossoms and events of a run, named by the type of its parts. So whatever
-//!   is done keeps to it, and callers get the bound from the type.
 //! - [`Allowance`] is what a run may do, by the size of its graph, and [`Work`] counts the work and the
 //!   events of a run against it.
 //! - [`Blossoms`] has what each region is made of ([`Whole`]). It keeps the count of the blossoms that are
-//!   made and taken apart under an invariant, so none comes or goes uncounted.
+//!   made and taken apart, and how many may be, under an invariant, so none comes or goes uncounted.
 //! - [`Growth`] has the counts that are returned: of blossoms made and taken apart, and of events.
 //! - [`batch_of`] and [`window_of`] deal work out: how many trees grow at one time, and how large windows
 //!   are.
@@ -17,13 +15,11 @@
 
 mod blossoms;
 mod growth;
-mod limit;
 mod shares;
 mod work;
 
 pub use blossoms::{Blossoms, Whole, no_whole};
 pub use growth::Growth;
-pub use limit::{Limit, Unlimited};
 pub use shares::{batch_of, window_of};
 use std::alloc::AllocError;
 pub use work::{Allowance, Work};

@@ -5,8 +5,7 @@
 ghost use Rattle.std.specs.Prelude.{◌≡◌, ◌+◌, ◌*◌, ◌≤◌, IsFalse, IsTrue};
 ghost use Rattle.sg_work.specs.Counts.{event_limit, growth_limit};
 
-use super::limit::Limit;
-use std::marker::{Model, PhantomData};
+use std::marker::Model;
 
 /// What a run may do: blossoms that it makes and takes apart, and steps of work.
 #[derive(Clone, Copy)]
@@ -83,34 +82,33 @@ fn most_blossoms(terminals: usize) -> u64
 
 /// The work that is left, and the events that were taken; past its limit there is no proposal.
 #[derive(Drop)]
-pub struct Work<L: Limit> {
+pub struct Work {
     left: u64,
     events: u64,
     most: u64,
-    limit: PhantomData<L>,
 }
 
-impl<L: Limit> Model for Work<L> {
-    ghost use Rattle.std.specs.Prelude.{ℕ, ◌+◌, ◌≤◌};
+impl Model for Work {
+    ghost use Rattle.std.specs.Prelude.{◌+◌, ◌≤◌};
+    ghost use Rattle.sg_work.specs.Counts.{WorkDone};
 
-    ghost Value = { ℕ };
+    ghost Value = { WorkDone };
 
-    ghost view = { λ w. w.events };
+    ghost view = { λ w. record { events = w.events; most = w.most } };
 
-    ghost invariant = { λ w. (w.events + w.left ≤ w.most) × (w.most ≤ L.events) };
+    ghost invariant = { λ w. w.events + w.left ≤ w.most };
 }
 
-impl<L: Limit> Work<L> {
+impl Work {
     /// So much is left, and no event was taken.
-    pub fn new(most: u64) -> Work<L>
-        requires { most ≤ L.events }
-        ensures { result ≡ 0 }
+    pub fn new(most: u64) -> Work
+        ensures events { result.events ≡ 0 }
+        ensures most { result.most ≡ most }
     {
         Work {
             left: most,
             events: 0,
             most,
-            limit: PhantomData,
         }
     }
 
@@ -121,8 +119,8 @@ impl<L: Limit> Work<L> {
 
     /// How many events were taken.
     pub fn events(&self) -> u64
-        ensures counted { result ≡ self.now }
-        ensures within { result ≤ L.events }
+        ensures counted { result ≡ self.now.events }
+        ensures within { result ≤ self.now.most }
     {
         self.events
     }
@@ -136,7 +134,8 @@ impl<L: Limit> Work<L> {
 
     /// Does the step of an event. False, and all stays, where none is left.
     pub fn take_event(&mut self) -> bool
-        ensures taken { IsTrue result → self.new ≡ self.old + 1 }
+        ensures taken { IsTrue result → self.new.events ≡ self.old.events + 1 }
+        ensures most { self.new.most ≡ self.old.most }
         ensures stays { IsFalse result → self.new ≡ self.old }
     {
         if self.left == 0 {
