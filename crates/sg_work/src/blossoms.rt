@@ -86,6 +86,7 @@ impl Blossoms {
     /// A new region, or a name that is used again, without parts.
     pub fn open(&mut self, name: u32) -> Result<(), NoMemory>
         ensures made { self.new.made ≡ self.old.made }
+        ensures expanded { self.new.expanded ≤ self.old.expanded + 1 }
         ensures most { self.new.most ≡ self.old.most }
     {
         if name as usize == self.wholes.len() {
