@@ -179,8 +179,8 @@ fn run_over(
     Ok(Ran { grown, lists })
 }
 
-// What was found, and what was done for it. More than is allowed is never done, since the engine counts; it would
-// count as all of that, for nothing.
+// What was found, and what was done for it. The engine counts, so it never does more than is allowed. A run that did
+// would have found nothing, and would count as all that is allowed.
 fn settled(found: Option<Finished>, growth: Growth, allowed: Allowance) -> Grown<Option<Finished>>
     ensures blossoms { result.growth.blossoms ≤ allowed.blossoms }
     ensures events { result.growth.events ≤ allowed.work }
@@ -200,7 +200,7 @@ fn settled(found: Option<Finished>, growth: Growth, allowed: Allowance) -> Grown
 }
 
 // The lists of an engine, if they are kept.
-fn lists_of<'a>(engine: Engine<'a>, has_hub: bool, keeps: bool) -> Option<Lists> {
+fn lists_of(engine: Engine, has_hub: bool, keeps: bool) -> Option<Lists> {
     if !keeps {
         return None;
     }
