@@ -13,14 +13,14 @@ use super::bounds::Bound;
 use super::narrowing::costs_of;
 use super::{CostList, NoMemory};
 use sg_model::Instance;
-use sg_planar::{Part, Planar, parts};
+use sg_planar::{Division, Part, Planar, divide};
 use sg_tjoin::Unproved;
 use std::alloc::{AllocError, Global};
 
 /// The cost of each bond. The only error is running out of memory.
 ///
-/// A bond costs in its component what it costs in the whole, so each component is taken by itself, and its
-/// costs are found as in [`costs_of`].
+/// A bond costs in its component what it costs in the whole, so where there are several, each is copied and taken by
+/// itself. Its costs are found as in [`costs_of`].
 ///
 /// Cost: in practice one growth of each component's regions and a repair for about each spin, at most one
 /// for each bond; beside them a walk over the bonds of its component for each bond.
@@ -28,8 +28,10 @@ pub fn costs(alloc: Global, planar: &Planar) -> Result<CostList, NoMemory>
     requires sum { weight planar.now.instance ≤ sum_limit }
     ensures { IfOk result (AreCosts planar.now.instance) }
 {
-    let list = parts(alloc, planar)?;
-    join_costs(alloc, planar.instance(), list.as_slice())
+    match divide(alloc, planar)? {
+        Division::Whole => part_costs(alloc, planar),
+        Division::Several(list) => join_costs(alloc, planar.instance(), list.as_slice()),
+    }
 }
 
 // The costs of these parts, by the numbers that the bonds have in the whole.
@@ -46,7 +48,7 @@ fn join_costs(alloc: Global, inst: &Instance, parts: &[Part]) -> Result<CostList
     Ok(CostList::from_vec(costs))
 }
 
-// The costs in one component.
+// The costs in one component, or in all of a connected instance.
 fn part_costs(alloc: Global, planar: &Planar) -> Result<CostList, NoMemory>
     requires sum { weight planar.now.instance ≤ sum_limit }
     ensures { IfOk result (AreCosts planar.now.instance) }
