@@ -46,16 +46,23 @@ fn blanks_behind(field: &[u8]) -> usize
         .count()
 }
 
+// Blanks are counted only where there are some: most fields have none.
 fn after_blanks(field: &[u8]) -> &[u8]
     ensures { result.now ≡ after_front is_blank_byte field.now }
 {
-    &field[blanks_before(field)..]
+    match field {
+        [b' ' | b'\t', ..] => &field[blanks_before(field)..],
+        _ => field,
+    }
 }
 
 fn before_blanks(field: &[u8]) -> &[u8]
     ensures { result.now ≡ before_end is_blank_byte field.now }
 {
-    &field[..field.len() - blanks_behind(field)]
+    match field {
+        [.., b' ' | b'\t'] => &field[..field.len() - blanks_behind(field)],
+        _ => field,
+    }
 }
 
 /// A field without the blanks at both its ends.
