@@ -1,5 +1,5 @@
 -- The costs of the parts, one behind another, make those of the whole.
-use Rattle.sg_bonds.proofs.Common.{inl, inr, ◌≡◌, ◌≢◌, ℕ, suc, ◌+◌, ◌<◌, ◌≤◌, ℤ, pos, Bool, true, false, cond, List, [], ◌∷◌, sym, ◌∙◌, ap, subst, arith}
+use Rattle.sg_bonds.proofs.Common.{inl, inr, ◌≡◌, ℕ, suc, ◌+◌, ◌<◌, ◌≤◌, ℤ, pos, Bool, true, false, cond, List, [], ◌∷◌, sym, ◌∙◌, ap, subst, arith}
 use Rattle.sg_bonds.proofs.Common.{sum_by, length, get_or, unsigned_abs, cases_Bool, cases_eq, false≢true, get_or_default, sum_limit, holds, Bond, Ising, bond_count, IsInstance, spin, weight}
 use Rattle.std.proofs.lemmas.List.Sums.{sum_by-cons}
 use Rattle.sg_base.proofs.ListLaws.{cases_in}

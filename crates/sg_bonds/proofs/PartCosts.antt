@@ -1,5 +1,5 @@
 -- What a bond costs in its component it costs in the whole: the least energies of the other bonds cancel.
-use Rattle.sg_bonds.proofs.Common.{inl, inr, ◌≡◌, ◌≢◌, ℕ, ◌+◌, ◌<◌, ◌≤◌, ℤ, pos, negsuc, ◌+ℤ◌, ◌-ℤ◌, ◌*ℤ◌, false, cond, List, refl, sym, ◌∙◌, ap, ap₂, subst}
+use Rattle.sg_bonds.proofs.Common.{inl, inr, ◌≡◌, ℕ, ◌+◌, ◌<◌, ◌≤◌, ℤ, pos, negsuc, ◌+ℤ◌, ◌-ℤ◌, ◌*ℤ◌, false, cond, List, refl, sym, ◌∙◌, ap, ap₂, subst}
 use Rattle.sg_bonds.proofs.Common.{arith, sum_by, length, cases_Bool, false≢true, false_from_ne_true, ints, holds, Ising, IsBond, bond_at, bond_count}
 use Rattle.sg_bonds.proofs.Common.{IsInstance, JoinedBy, all_bonds, IsAssignment, IsUpOrDown, spin, IsGroundState, energy, product, weight}
 use Rattle.std.proofs.lemmas.List.Elements.{All-from_get_or}

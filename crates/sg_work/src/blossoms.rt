@@ -3,7 +3,7 @@
 // The list of all regions and the counts stand in one value, whose invariant says that the blossoms there are
 // and those that were taken apart are those that were made, and that all these are no more than may be. So
 // none comes or goes uncounted.
-ghost use Rattle.std.specs.Prelude.{◌≡◌, ◌+◌, ◌≤◌, IfOk, IsFalse, IsTrue};
+ghost use Rattle.std.specs.Prelude.{◌≡◌, ◌+◌, ◌≤◌, IfErr, IfOk, IsFalse, IsTrue};
 
 use super::NoMemory;
 use std::alloc::Global;
@@ -83,11 +83,13 @@ impl Blossoms {
         self.made + self.expanded
     }
 
-    /// A new region, or a name that is used again, without parts.
+    /// A new region, or a name that is used again, without parts. If memory runs out, all stays.
     pub fn open(&mut self, name: u32) -> Result<(), NoMemory>
         ensures made { self.new.made ≡ self.old.made }
         ensures expanded { self.new.expanded ≤ self.old.expanded + 1 }
+        ensures kept { self.old.expanded ≤ self.new.expanded }
         ensures most { self.new.most ≡ self.old.most }
+        ensures stays { IfErr result (λ _. self.new ≡ self.old) }
     {
         if name as usize == self.wholes.len() {
             self.wholes.push(no_whole())?;
