@@ -1,6 +1,7 @@
 """Named answers: walls with their states, clusters, cuts, joins, walks, drawn instances; batches; and
 what answers and refusals are to Python: equal, hashed, pickled, interrupted."""
 
+import contextlib
 import dataclasses
 import itertools
 import json
@@ -385,6 +386,33 @@ class Interrupts(unittest.TestCase):
             self.assertEqual(child.stdout.readline(), "heard\n")
             self.assertEqual(child.wait(20), 0)
             return time.monotonic() - begun
+
+    def test_the_main_thread_takes_no_step_of_a_lock_in_python(self):
+        """Left between two such steps, a lock would stay held, or be released twice."""
+        lattice = ising2d.draw("pm", 1, "square", 46, 46)
+        with steps_of_locks() as steps:
+            lattice.ground()
+            lattice.costs(range(8), progress=lambda done, whole: True)
+            list(ising2d.in_order(abs, range(20), threads=3))
+            next(ising2d.in_order(abs, itertools.count(), threads=3))
+        self.assertEqual(steps, set())
+
+
+@contextlib.contextmanager
+def steps_of_locks():
+    """The functions in Python of `threading` and `queue`, but for questions, that this thread calls meanwhile."""
+    steps = set()
+
+    def note(frame, event, argument):
+        if event == "call" and frame.f_globals.get("__name__") in ("threading", "queue"):
+            steps.add(frame.f_code.co_name)
+
+    sys.setprofile(note)
+    try:
+        yield steps
+    finally:
+        sys.setprofile(None)
+        steps -= {"main_thread", "current_thread", "ident", "active_count", "enumerate"}
 
 
 if __name__ == "__main__":

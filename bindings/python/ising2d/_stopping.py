@@ -98,7 +98,7 @@ def awaited(progress: Telling, what: str, call: Callable[..., Result], *argument
     refuse_progress(progress)
     with Watch(progress, 1, lambda: None) as watch:
         task: Task[Result] = Task(call, arguments)
-        while not task.done.wait(_TICK):
+        while not task.wait(_TICK):
             watch.wait(what)
         found = task.result()
         watch.step(1)

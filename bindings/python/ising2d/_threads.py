@@ -1,7 +1,13 @@
-"""Threads: calls that hear Ctrl-C, and many calls side by side."""
+"""Threads: calls that hear Ctrl-C, and many calls side by side.
+
+The main thread may be left at any step of code in Python, by Ctrl-C or by SIGTERM. `Event`, `Semaphore` and the
+start of a `Thread` have such steps, and are left with a lock that is held, or released twice. So what the main
+thread waits for here is in C: a plain lock and a `SimpleQueue`, which are left as a whole.
+"""
 
 from __future__ import annotations
 
+import _thread
 import os
 import queue
 import threading
@@ -28,10 +34,10 @@ def interruptible(long: bool, call: Callable[..., Result], *arguments: Any) -> R
     ends the waiting at once; the call goes on to its end, with nobody to take its result, and does not
     hold up the end of the process.
     """
-    if not long or threading.current_thread() is not threading.main_thread():
+    if not long or threading.get_ident() != threading.main_thread().ident:
         return call(*arguments)
     task = Task(call, arguments)
-    task.done.wait()
+    task.wait()
     return task.result()
 
 
@@ -40,10 +46,11 @@ class Task(Generic[Result]):
 
     def __init__(self, call: Callable[..., Result], arguments: Tuple[Any, ...]) -> None:
         self.call, self.arguments = call, arguments
-        self.done = threading.Event()
         self.returned: List[Result] = []
         self.raised: List[BaseException] = []
-        threading.Thread(target=self.work, daemon=True).start()
+        self.under_way = threading.Lock()
+        self.under_way.acquire()
+        _thread.start_new_thread(self.work, ())
 
     def work(self) -> None:
         try:
@@ -51,7 +58,11 @@ class Task(Generic[Result]):
         except BaseException as fault:  # whatever it is, it is raised again where it is waited for
             self.raised.append(fault)
         finally:
-            self.done.set()
+            self.under_way.release()
+
+    def wait(self, seconds: float = -1) -> bool:
+        """Waits until the call has ended, or for so many seconds; whether it has."""
+        return self.under_way.acquire(timeout=seconds)
 
     def result(self) -> Result:
         if self.raised:
@@ -94,12 +105,15 @@ class _Crew(Generic[Item, Result]):
     def __init__(self, call: Callable[[Item], Result], items: Iterable[Item], count: int) -> None:
         self.call, self.source = call, enumerate(items)
         self.taking = threading.Lock()
-        self.ahead = threading.Semaphore(4 * count)
+        # An entry for each item that may be taken before an earlier one is answered.
+        self.ahead: queue.SimpleQueue[None] = queue.SimpleQueue()
+        for _ in range(4 * count):
+            self.ahead.put(None)
         self.stopped = False
         self.finished: queue.SimpleQueue[Tuple[int, bool, Any]] = queue.SimpleQueue()
         self.working = count
         for _ in range(count):
-            threading.Thread(target=self._work, daemon=True).start()
+            _thread.start_new_thread(self._work, ())
 
     def _work(self) -> None:
         """Takes items until there are none; at last it says so, by a place below 0."""
@@ -112,11 +126,11 @@ class _Crew(Generic[Item, Result]):
             self.finished.put((-1, True, None))
 
     def _one(self) -> bool:
-        self.ahead.acquire()
+        self.ahead.get()
         with self.taking:
             taken = None if self.stopped else next(self.source, None)
         if taken is None:
-            self.ahead.release()
+            self.ahead.put(None)
             return False
         place, item = taken
         try:
@@ -134,7 +148,7 @@ class _Crew(Generic[Item, Result]):
                 if not good:
                     raise value
                 awaited += 1
-                self.ahead.release()
+                self.ahead.put(None)
                 yield value
                 continue
             place, good, value = self.finished.get()
@@ -149,4 +163,4 @@ class _Crew(Generic[Item, Result]):
         """No item is taken from now on. Calls that are under way go on to their ends."""
         self.stopped = True
         for _ in range(self.working):
-            self.ahead.release()
+            self.ahead.put(None)
