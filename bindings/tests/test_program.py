@@ -1,18 +1,29 @@
 """The command line: files and streams, help, refusals in words, lines of JSON."""
 
+import collections
+import contextlib
 import functools
+import io
+import itertools
 import json
+import multiprocessing
 import os
+import random
 import signal
 import subprocess
 import sys
 import tempfile
 import time
 import unittest
+import unittest.mock
+from contextlib import closing
 from pathlib import Path
 
 import ising2d
-from test_answers import TRIES
+from ising2d._cli import main
+from ising2d._streams import answer_lines
+from ising2d._workers import WorkerEnded
+from test_answers import TRIES, steps_of_locks
 from test_calls import EXAMPLES
 
 SQUARE = "square,2,2\n3,4\n2,-5\nend\n"
@@ -23,6 +34,26 @@ def program(*words, input=b"", **wishes):
     return subprocess.run(
         [sys.executable, "-m", "ising2d", *words], input=given, capture_output=True, **wishes
     )
+
+
+class Ended(BaseException):
+    """Raised by a signal, as SystemExit is in the program."""
+
+
+@contextlib.contextmanager
+def ended_by_a_clock():
+    """A clock and SIGTERM raise Ended meanwhile."""
+
+    def end(number, frame):
+        raise Ended
+
+    before = [(number, signal.signal(number, end)) for number in (signal.SIGALRM, signal.SIGTERM)]
+    try:
+        yield
+    finally:
+        signal.setitimer(signal.ITIMER_REAL, 0)
+        for number, heard in before:
+            signal.signal(number, heard)
 
 
 class Commands(unittest.TestCase):
@@ -176,6 +207,44 @@ class Commands(unittest.TestCase):
                     rest, told = child.communicate(timeout=20)
                     self.assertEqual((child.returncode, told), (143, b""))
                     self.assertTrue(not rest or rest.endswith(b"\n"))
+
+    def test_an_end_from_outside_at_every_moment(self):
+        """Few moments of all, by a clock that ends the answers of a process and of two."""
+        line = json.dumps(ising2d.draw("pm", 1, "square", 8, 8).as_json())
+        for jobs, count in ((1, 200), (2, 8)):
+            for _ in range(count):
+                with self.subTest(jobs=jobs), ended_by_a_clock(), self.assertRaises(Ended):
+                    with closing(answer_lines("bonds", itertools.repeat(line, 100_000), jobs)) as answers:
+                        next(answers)
+                        signal.setitimer(signal.ITIMER_REAL, random.uniform(1e-6, 0.01))
+                        collections.deque(answers, maxlen=0)
+                self.assertEqual(multiprocessing.active_children(), [])
+
+    def test_two_processes_take_no_step_of_a_lock_in_python(self):
+        line = json.dumps(ising2d.draw("pm", 1, "square", 8, 8).as_json())
+        with steps_of_locks() as steps:
+            self.assertEqual(len(list(answer_lines("bonds", [line] * 40, 2))), 40)
+        self.assertEqual(steps, set())
+
+    def test_a_process_that_is_killed(self):
+        line = json.dumps(ising2d.draw("pm", 1, "square", 8, 8).as_json())
+        with closing(answer_lines("energy", itertools.repeat(line), 2)) as answers:
+            next(answers)
+            multiprocessing.active_children()[0].kill()
+            with self.assertRaisesRegex(WorkerEnded, "ended before its answer"):
+                collections.deque(answers, maxlen=0)
+        self.assertEqual(multiprocessing.active_children(), [])
+        # Whoever ends one process of several by SIGTERM ends them all.
+        with ended_by_a_clock(), closing(answer_lines("energy", itertools.repeat(line), 2)) as answers:
+            next(answers)
+            multiprocessing.active_children()[0].terminate()
+            with self.assertRaises(Ended):
+                collections.deque(answers, maxlen=0)
+        with unittest.mock.patch("ising2d._cli.answer_lines", side_effect=WorkerEnded("was killed")):
+            told = io.StringIO()
+            with ended_by_a_clock(), contextlib.redirect_stderr(told), tempfile.NamedTemporaryFile() as file:
+                self.assertEqual(main(["lines", "energy", "--jobs", "2", file.name]), 6)
+            self.assertIn("was killed", told.getvalue())
 
     def test_pictures(self):
         for show, text in (("ground", SQUARE), ("clusters", SQUARE), ("wall", "cylinder,1,3\n5,7,2\nend\n")):

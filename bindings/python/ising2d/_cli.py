@@ -6,6 +6,7 @@ import argparse
 import os
 import signal
 import sys
+from contextlib import closing
 from enum import IntEnum
 from pathlib import Path
 from typing import Any, BinaryIO, Callable, Dict, Iterator, List, NamedTuple, Optional, Sequence
@@ -22,6 +23,7 @@ from ._records import as_text, proof_in
 from ._runs import run
 from ._streams import COMMANDS, answer_lines
 from ._version import VERSION
+from ._workers import WorkerEnded
 
 _NAME = "ising2d"
 
@@ -425,10 +427,11 @@ def _lines(options: argparse.Namespace, names: Sequence[str]) -> int:
         with file:
             progress = Progress(_size(file), not options.quiet)
             texts = (line.decode("utf-8", "replace") for line in file)
-            for line in answer_lines(options.study, texts, options.jobs):
-                _write(line.text + "\n")
-                progress.step(line.size)
-                status = max(status, line.status)
+            with closing(answer_lines(options.study, texts, options.jobs)) as answers:
+                for line in answers:
+                    _write(line.text + "\n")
+                    progress.step(line.size)
+                    status = max(status, line.status)
             progress.end()
     return status
 
@@ -541,7 +544,7 @@ def main(words: Optional[Sequence[str]] = None) -> int:
     except MemoryError:
         _say("no memory left")
         return Exit.NO_MEMORY
-    except NoProofFound as fault:
+    except (NoProofFound, WorkerEnded) as fault:
         _say(str(fault))
         return Exit.NO_MEMORY
     except (OSError, ValueError) as fault:

@@ -2,11 +2,8 @@
 
 from __future__ import annotations
 
-import collections
 import json
-import multiprocessing
-import signal
-from typing import Any, Callable, Deque, Dict, Iterable, Iterator, List, NamedTuple, Tuple
+from typing import Any, Callable, Dict, Generator, Iterable, List, NamedTuple, Tuple
 
 from ._errors import NoProofFound, Refusal
 from ._instances import Instance
@@ -14,6 +11,7 @@ from ._loops import Loop
 from ._networks import Network
 from ._reading import instance_of
 from ._records import object_of
+from ._workers import by_processes
 
 
 class Line(NamedTuple):
@@ -148,24 +146,7 @@ def answer_line(task: Tuple[str, int, str]) -> Line:
     return Line(json.dumps(answer, separators=(",", ":")), status, len(text.encode()))
 
 
-def _begin_worker() -> None:
-    """Ctrl-C is for the process that hands out the lines; SIGTERM ends a worker without a word."""
-    signal.signal(signal.SIGINT, signal.SIG_IGN)
-    signal.signal(signal.SIGTERM, signal.SIG_DFL)
-
-
-def answer_lines(command: str, lines: Iterable[str], jobs: int) -> Iterator[Line]:
+def answer_lines(command: str, lines: Iterable[str], jobs: int) -> Generator[Line, None, None]:
     """The answers to all lines that are not blank, in their order."""
     tasks = ((command, number, line) for number, line in enumerate(lines, 1) if line.strip())
-    if jobs == 1:
-        yield from map(answer_line, tasks)
-        return
-    # A process of its own for each worker, since a process with threads is not to be forked.
-    with multiprocessing.get_context("spawn").Pool(jobs, _begin_worker) as pool:
-        waiting: Deque[Any] = collections.deque()
-        for task in tasks:
-            waiting.append(pool.apply_async(answer_line, (task,)))
-            while len(waiting) >= 8 * jobs or (waiting and waiting[0].ready()):
-                yield waiting.popleft().get()
-        while waiting:
-            yield waiting.popleft().get()
+    yield from map(answer_line, tasks) if jobs == 1 else by_processes(answer_line, tasks, jobs)
