@@ -208,8 +208,8 @@ class Commands(unittest.TestCase):
                     self.assertEqual((child.returncode, told), (143, b""))
                     self.assertTrue(not rest or rest.endswith(b"\n"))
 
-    def test_an_end_from_outside_at_every_moment(self):
-        """Few moments of all, by a clock that ends the answers of a process and of two."""
+    def test_an_end_from_outside_at_drawn_moments(self):
+        """A clock ends the answers of one process and of two."""
         line = json.dumps(ising2d.draw("pm", 1, "square", 8, 8).as_json())
         for jobs, count in ((1, 200), (2, 8)):
             for _ in range(count):

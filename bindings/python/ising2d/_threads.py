@@ -62,7 +62,10 @@ class Task(Generic[Result]):
 
     def wait(self, seconds: float = -1) -> bool:
         """Waits until the call has ended, or for so many seconds; whether it has."""
-        return self.under_way.acquire(timeout=seconds)
+        ended = self.under_way.acquire(timeout=seconds)
+        if ended:
+            self.under_way.release()
+        return ended
 
     def result(self) -> Result:
         if self.raised:

@@ -27,9 +27,11 @@ def by_processes(
     call: Callable[[Item], Result], items: Iterable[Item], count: int
 ) -> Generator[Result, None, None]:
     """What the call returns for each item, in the order of the items, by so many processes. The first that raises
-    ends it, with what it raised. If a process is killed, `WorkerEnded` is raised, or what SIGTERM raises here if it
-    was by that. Close it for the processes to end at once."""
-    with _Workers(call, count) as workers:
+    ends it, with what it raised. A process that is killed raises `WorkerEnded`; if SIGTERM killed it, this process
+    gets SIGTERM too. Close it for the processes to end at once."""
+    workers = _Workers(call, count)
+    try:
+        workers.start()
         for item in items:
             workers.take(0)
             yield from workers.in_turn()
@@ -40,6 +42,8 @@ def by_processes(
         while workers.places:
             workers.take(None)
             yield from workers.in_turn()
+    finally:
+        workers.stop()
 
 
 def _serve(call: Callable[[Item], Result], pipe: Connection) -> None:
@@ -79,19 +83,18 @@ class _Workers(Generic[Item, Result]):
         self.early: Dict[int, Result] = {}
         self.given = self.told = 0
 
-    def __enter__(self) -> _Workers[Item, Result]:
+    def start(self) -> None:
         # No signal comes before a process has its entry here, nor before it says what to do about one. The tracker,
         # which the first start would begin, lets signals through.
         resource_tracker.ensure_running()
         before = signal.pthread_sigmask(signal.SIG_BLOCK, _ENDS)
         try:
             for _ in range(self.count):
-                self._start()
+                self._start_one()
         finally:
             signal.pthread_sigmask(signal.SIG_SETMASK, before)
-        return self
 
-    def _start(self) -> None:
+    def _start_one(self) -> None:
         # A process of its own and no fork, since a process with threads is not to be forked.
         context = multiprocessing.get_context("spawn")
         ours, theirs = context.Pipe()
@@ -144,7 +147,8 @@ class _Workers(Generic[Item, Result]):
             yield self.early.pop(self.told)
             self.told += 1
 
-    def __exit__(self, *fault: object) -> None:
+    def stop(self) -> None:
+        """Ends the processes, whatever they are at."""
         self.selector.close()
         for process in self.processes.values():
             process.terminate()
